@@ -1,0 +1,2 @@
+-- `Numbers` has the laws of the table of refusals.
+pub mod Numbers

@@ -1,0 +1,24 @@
+-- `DiagCodedType::new` meets its contract. Assumes nothing.
+use mathlib.Core.Path.{sym}
+use Rattle.kinds.proofs.Numbers.{none-made}
+use borrow.Author.Needs.{needs}
+use Rattle.kinds.proofs.coded.DiagCodedType.new.Statement.{statement}
+use Rattle.kinds.proofs.coded.DiagCodedType.new.Tie as tie
+
+validate-requires : tie.Need-validate-requires
+validate-requires c κs = search needs
+
+enum-known-refusal : tie.Need-enum-known-refusal
+enum-known-refusal c = search needs
+
+enum-told : tie.Need-enum-told
+enum-told c = search needs
+
+returns : tie.Need-returns
+returns c = none-made _ (c .before .refusal .given .0 .0) _ (rw (c .before .refusal .given .1) at (c .before .before .before .validate .ensures))
+
+returns-2 : tie.Need-returns-2
+returns-2 c = rw (sym (c .before .before .validate .ensures), c .enum-told .given .1)
+
+pub new-spec : {M : Type 1} → statement M
+new-spec = tie.close (tie.spec validate-requires enum-known-refusal enum-told returns returns-2)

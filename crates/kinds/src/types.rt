@@ -1,0 +1,174 @@
+// Data types, bit lengths and byte counts, byte order, and the checks of bit position and bit length.
+ghost use mathlib.Core.Path.{_≡_};
+ghost use mathlib.Core.Bool.{cond};
+ghost use Prim.Native.Nat.{_*_, _≤_};
+ghost use lib.Dec.{ltb};
+ghost use Rattle.kinds.specs.Types.{isByteType, isUnicode, byteOrder, bytesFor};
+ghost use Rattle.kinds.specs.Answers.{numberOfCheck};
+ghost use Rattle.kinds.specs.Refusals.{bitPositionRefusal, bitLengthRefusal};
+use super::refusals::Check;
+use super::refusals::Refusal;
+
+pub enum DataType {
+    Int32,
+    UInt32,
+    Float32,
+    AsciiString,
+    Utf8String,
+    Unicode2String,
+    ByteField,
+    Float64,
+}
+
+// A length in bits, as a description gives it or a reading counts it.
+pub struct BitLength(pub u32);
+
+// A length in bytes.
+pub struct ByteCount(pub usize);
+
+// What becomes of the order of a run of bytes.
+pub enum ByteOrder {
+    Keep,
+    ReorderPairs,
+    Reverse,
+}
+
+impl BitLength {
+    pub fn bits(self) -> usize
+        ensures { λ r. ⌜ r ≡ self .0 ⌝ }
+    {
+        self.0 as usize
+    }
+
+    // The bytes that hold so many bits.
+    pub fn byte_count(self) -> ByteCount
+        ensures { λ r. ⌜ r .0 ≡ bytesFor (self .0) ⌝ }
+    {
+        let bits = self.0 as usize;
+        ByteCount((bits + 7) / 8)
+    }
+}
+
+impl ByteCount {
+    pub fn bytes(self) -> usize
+        ensures { λ r. ⌜ r ≡ self .0 ⌝ }
+    {
+        self.0
+    }
+
+    // Eight bits to each byte, of no more bytes than a slice may have.
+    pub fn bit_length(self) -> BitLength
+        requires { ⌜ self .0 ≤ 65535 ⌝ }
+        ensures { λ r. ⌜ r .0 ≡ 8 * self .0 ⌝ }
+    {
+        let bytes = self.0 as u32;
+        BitLength(8 * bytes)
+    }
+}
+
+impl DataType {
+    pub fn is_byte_type(self) -> bool
+        ensures { λ r. ⌜ r ≡ isByteType self ⌝ }
+    {
+        match self {
+            DataType::Int32 => false,
+            DataType::UInt32 => false,
+            DataType::Float32 => false,
+            DataType::AsciiString => true,
+            DataType::Utf8String => true,
+            DataType::Unicode2String => true,
+            DataType::ByteField => true,
+            DataType::Float64 => false,
+        }
+    }
+
+    // Text of two bytes to a character, the one type that goes by pairs.
+    pub fn is_unicode(self) -> bool
+        ensures { λ r. ⌜ r ≡ isUnicode self ⌝ }
+    {
+        match self {
+            DataType::Int32 => false,
+            DataType::UInt32 => false,
+            DataType::Float32 => false,
+            DataType::AsciiString => false,
+            DataType::Utf8String => false,
+            DataType::Unicode2String => true,
+            DataType::ByteField => false,
+            DataType::Float64 => false,
+        }
+    }
+
+    // Byte fields, ASCII and UTF-8 text have no byte order (ISO 22901-1, 7.3.6.3.3 b).
+    pub fn byte_order(self, is_high_low: bool) -> ByteOrder
+        ensures { λ r. ⌜ r ≡ byteOrder self «is_high_low» ⌝ }
+    {
+        if is_high_low {
+            return ByteOrder::Keep;
+        }
+        match self {
+            DataType::Int32 => ByteOrder::Reverse,
+            DataType::UInt32 => ByteOrder::Reverse,
+            DataType::Float32 => ByteOrder::Reverse,
+            DataType::AsciiString => ByteOrder::Keep,
+            DataType::Utf8String => ByteOrder::Keep,
+            DataType::Unicode2String => ByteOrder::ReorderPairs,
+            DataType::ByteField => ByteOrder::Keep,
+            DataType::Float64 => ByteOrder::Reverse,
+        }
+    }
+
+    pub fn validate_bit_pos(self, bit_pos: usize) -> Check
+        ensures { λ r. ⌜ numberOfCheck r ≡ bitPositionRefusal self «bit_pos» ⌝ }
+    {
+        if bit_pos == 0 {
+            return Check::Passed;
+        }
+        if self.is_byte_type() {
+            return Check::Refused(Refusal::ByteTypeAtBitPosition);
+        }
+        Check::Passed
+    }
+
+    pub fn validate_bit_len(self, bit_len: BitLength) -> Check
+        ensures { λ r. ⌜ numberOfCheck r ≡ bitLengthRefusal self («bit_len» .0) ⌝ }
+    {
+        let bits = bit_len.0;
+        if bits == 0 {
+            return Check::Refused(Refusal::ZeroBitLength);
+        }
+        match self {
+            DataType::Int32 => at_most_64(bits),
+            DataType::UInt32 => at_most_64(bits),
+            DataType::Float32 => {
+                if bits == 32 {
+                    return Check::Passed;
+                }
+                Check::Refused(Refusal::Float32Length)
+            }
+            DataType::AsciiString => Check::Passed,
+            DataType::Utf8String => Check::Passed,
+            DataType::Unicode2String => {
+                if bits % 16 == 0 {
+                    return Check::Passed;
+                }
+                Check::Refused(Refusal::UnicodeLength)
+            }
+            DataType::ByteField => Check::Passed,
+            DataType::Float64 => {
+                if bits == 64 {
+                    return Check::Passed;
+                }
+                Check::Refused(Refusal::Float64Length)
+            }
+        }
+    }
+}
+
+fn at_most_64(bits: u32) -> Check
+    ensures { λ r. ⌜ numberOfCheck r ≡ cond (ltb 64 bits) 22 0 ⌝ }
+{
+    if 64 < bits {
+        return Check::Refused(Refusal::IntegerTooLong);
+    }
+    Check::Passed
+}
