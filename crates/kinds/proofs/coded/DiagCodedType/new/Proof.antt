@@ -1,6 +1,6 @@
 -- `DiagCodedType::new` meets its contract. Assumes nothing.
 use mathlib.Core.Path.{sym}
-use Rattle.kinds.proofs.Numbers.{none-made}
+use Rattle.kinds.proofs.Refused.{none-made}
 use borrow.Author.Needs.{needs}
 use Rattle.kinds.proofs.coded.DiagCodedType.new.Statement.{statement}
 use Rattle.kinds.proofs.coded.DiagCodedType.new.Tie as tie

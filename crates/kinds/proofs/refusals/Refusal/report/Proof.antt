@@ -1,7 +1,7 @@
 -- `Refusal::report` meets its contract. Assumes nothing.
 use mathlib.Core.Path.{ap, _∙_}
 use Rattle.kinds.specs.Answers.{refused}
-use Rattle.kinds.proofs.Numbers.{plain}
+use Rattle.kinds.proofs.Refused.{plain}
 use borrow.Author.Needs.{needs}
 use Rattle.kinds.proofs.refusals.Refusal.report.Statement.{statement}
 use Rattle.kinds.proofs.refusals.Refusal.report.Tie as tie

@@ -1,0 +1,114 @@
+// Bits of bytes: one bit read or set, a run of bits taken out of bytes, and a run of bits ORed into bytes.
+ghost use mathlib.Core.Path.{_≡_};
+ghost use mathlib.Core.Bool.{cond};
+ghost use Prim.Native.Nat.{_+_, _*_, _<_, _≤_, min};
+ghost use lib.ListN.{length, replicate};
+ghost use lib.Dec.{ltb};
+ghost use Rattle.kinds.specs.Types.{bytesFor};
+ghost use Rattle.order.specs.Order.{ordered};
+ghost use Rattle.bits.specs.Bits.{bitAt, place, orBit};
+ghost use Rattle.bits.specs.Moves.{extracted, injected};
+use kinds::ByteOrder;
+
+// Bit i of the bytes.
+pub fn bit_at(data: &[u8], i: usize) -> u8
+    requires { ⌜ i < 8 * length (now «data») ⌝ }
+    ensures { λ r. ⌜ r ≡ bitAt (now («data» .entry)) i ⌝ }
+{
+    let byte = data.len() - i / 8 - 1;
+    (data[byte] >> (i % 8)) & 1
+}
+
+// ORs the lowest bit of a value into a bit, which it clears first or not. Answers whether there is such a byte.
+pub fn set_bit_checked(
+    result_bytes: &mut [u8],
+    dst_byte_index: usize,
+    dst_bit_offset: usize,
+    bit_value: u8,
+    clear_bit: bool,
+) -> bool
+    requires { ⌜ «dst_bit_offset» < 8 ⌝ }
+    ensures { λ r. ⌜ r ≡ ltb «dst_byte_index» (length (now («result_bytes» .entry))) ⌝ }
+    ensures { λ _. ⌜ now («result_bytes» .exit) ≡ cond (ltb «dst_byte_index» (length (now («result_bytes» .entry)))) (orBit «clear_bit» (now («result_bytes» .entry)) (place (length (now («result_bytes» .entry))) «dst_byte_index» «dst_bit_offset») «bit_value») (now («result_bytes» .entry)) ⌝ }
+{
+    if dst_byte_index < result_bytes.len() {
+        let mut byte = result_bytes[dst_byte_index];
+        if clear_bit {
+            byte &= !(1 << dst_bit_offset);
+        }
+        byte |= (bit_value & 1) << dst_bit_offset;
+        result_bytes[dst_byte_index] = byte;
+        true
+    } else {
+        false
+    }
+}
+
+// Bit i of the ordered form of the bytes.
+pub fn ordered_bit_at(data: &[u8], byte_order: ByteOrder, i: usize) -> u8
+    requires { ⌜ i < 8 * length (now «data») ⌝ }
+    ensures { λ r. ⌜ r ≡ bitAt (ordered «byte_order» (now («data» .entry))) i ⌝ }
+{
+    let byte = order::ordered_byte(data, byte_order, data.len() - i / 8 - 1);
+    (byte >> (i % 8)) & 1
+}
+
+// ORs the lowest bit of a value into bit i of the bytes, which it clears first or not.
+pub fn set_bit_at(data: &mut [u8], i: usize, bit_value: u8, clear_bit: bool)
+    requires { ⌜ i < 8 * length (now «data») ⌝ }
+    ensures { λ _. ⌜ now («data» .exit) ≡ orBit «clear_bit» (now («data» .entry)) i «bit_value» ⌝ }
+{
+    let byte = data.len() - i / 8 - 1;
+    set_bit_checked(data, byte, i % 8, bit_value, clear_bit);
+}
+
+// Zeros in all of the bytes.
+pub fn zero(data: &mut [u8])
+    ensures { λ _. ⌜ now («data» .exit) ≡ replicate (length (now («data» .entry))) 0 ⌝ }
+{
+    let mut i = 0;
+    while i < data.len() {
+        data[i] = 0;
+        i += 1;
+    }
+}
+
+// Takes bits of the ordered form of the data from a bit position on, right-aligned.
+pub fn extract_bits(
+    bit_len: usize,
+    bit_pos: usize,
+    data: &[u8],
+    byte_order: ByteOrder,
+    result_bytes: &mut [u8],
+)
+    requires { ⌜ length (now «data») ≤ 65535 ⌝ }
+    requires { ⌜ «bit_pos» + «bit_len» ≤ 8 * length (now «data») ⌝ }
+    requires { ⌜ length (now «result_bytes») ≡ bytesFor «bit_len» ⌝ }
+    ensures { λ _. ⌜ now («result_bytes» .exit) ≡ extracted «bit_len» «bit_pos» (ordered «byte_order» (now («data» .entry))) ⌝ }
+{
+    zero(result_bytes);
+    for i in 0..bit_len {
+        let bit_value = ordered_bit_at(data, byte_order, bit_pos + i);
+        set_bit_at(result_bytes, i, bit_value, false);
+    }
+}
+
+fn least(a: usize, b: usize) -> usize
+    ensures { λ r. ⌜ r ≡ min a b ⌝ }
+{
+    if a < b { a } else { b }
+}
+
+// ORs bits of the source into the destination from a bit position on. Past its end the source has zeros.
+pub fn inject_bits(bit_len: usize, bit_pos: usize, dst_data: &mut [u8], source_data: &[u8])
+    requires { ⌜ length (now «source_data») ≤ 65535 ⌝ }
+    requires { ⌜ length (now «dst_data») ≤ 65535 ⌝ }
+    requires { ⌜ «bit_pos» + «bit_len» ≤ 8 * length (now «dst_data») ⌝ }
+    ensures { λ _. ⌜ now («dst_data» .exit) ≡ injected «bit_len» «bit_pos» (bitAt (now («source_data» .entry))) (now («dst_data» .entry)) ⌝ }
+{
+    let count = least(bit_len, source_data.len() * 8);
+    for i in 0..count {
+        let bit_value = bit_at(source_data, i);
+        set_bit_at(dst_data, bit_pos + i, bit_value, false);
+    }
+}
