@@ -51,7 +51,7 @@ loop-again c = let k = c .before .before .before .before .before .before in
       omega arith,
       omega arith,
       c .before .before .set-bit-at .ensures ∙ rw (c .before .before .before .before .ordered-bit-at .ensures)
-          (first-step (from (s .args .bit-pos) (bitAt (ordered (s .args .byte-order) (s .args .«data» .now)))) (k .loop .result-bytes) (bytesFor (s .args .bit-len)) i (λ j. bitAt-lt _ _) (omega arith) (k .loop .inv .2)),
+          (first-step (from (s .args .bit-pos) (bitAt (ordered (s .args .byte-order) (s .args .«data» .now)))) (k .loop .result-bytes) (bytesFor (s .args .bit-len)) i (λ j. bitAt-lt _ _) (k .loop .inv .2)),
     )
 
 same-length : tie.Need-same-length Inv-loop μ-loop

@@ -48,7 +48,7 @@ loop-again c = let k = c .before .before .before .before .before .before in
       omega arith,
       omega arith,
       c .before .before .set-bit-at .ensures ∙ rw (c .before .before .before .before .bit-at .ensures)
-          (injected-step (s .args .bit-pos) i (bitAt (s .args .source-data .now)) (s .args .dst-data .now) (k .loop .dst-data) (bitAt-lt _) (omega arith) (k .loop .inv .2)),
+          (injected-step (s .args .bit-pos) i (bitAt (s .args .source-data .now)) (s .args .dst-data .now) (k .loop .dst-data) (bitAt-lt _) (k .loop .inv .2)),
     )
 
 same-length : tie.Need-same-length Inv-loop μ-loop

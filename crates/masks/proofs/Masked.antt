@@ -1,0 +1,51 @@
+-- Bits under a plain mask: what the code reads of it, and the bit that a loop comes to. Assumes nothing.
+use mathlib.Core.Path.{_≡_, sym, ap, _∙_}
+use mathlib.Core.List.{List}
+use Prim.Native.Nat.{ℕ, _+_, _-_, _*_, _/_, _%_, _^_, _≤_, _<_, min}
+use mathlib.Core.Bool.{false}
+use native.Mathlib.Omega.{arith}
+use lib.ListN.{length, getD, List·getD-eq-default}
+use lib.Bits.{bitAnd, and-mask}
+use borrow.Author.Tests.{le-ltb, le-leb}
+use Rattle.bits.specs.Bits.{bit, bitAt}
+use Rattle.bits.specs.Moves.{within, overlaid}
+use Rattle.bits.proofs.Numbers.{Bits, bit-lt, bit-of-zero, and-two}
+use Rattle.bits.proofs.Bytes.{bitAt-lt}
+use Rattle.bits.proofs.Moves.{within-out, bitAt-overlaid}
+use Rattle.masks.specs.declared.plain.Kept.{Kept}
+use Rattle.masks.specs.declared.plain.Kept.the-variants.{UnderOnes, UnderZeros}
+use Rattle.masks.specs.Plain.{maskBit, keeps}
+
+pub maskBit-code : (mask : List ℕ) (i j : ℕ) → j ≡ length mask - 1 - i / 8 → bitAnd (getD mask j 0 / 2 ^ (i % 8)) 1 ≡ maskBit mask i
+unfolding maskBit bit
+maskBit-code mask i j e = rw e (and-mask _ 1)
+
+pub maskBit-empty : (mask : List ℕ) (i : ℕ) → length mask ≡ 0 → maskBit mask i ≡ 0
+unfolding maskBit
+maskBit-empty mask i e =
+    let none : getD mask (length mask - 1 - i / 8) 0 ≡ 0 = List·getD-eq-default mask 0 (omega arith) in
+    rw none (bit-of-zero (i % 8))
+
+pub maskBit-lt : (mask : List ℕ) (i : ℕ) → maskBit mask i < 2
+unfolding maskBit
+maskBit-lt mask i = bit-lt (getD mask (length mask - 1 - i / 8) 0) (i % 8)
+
+pub keeps-lt : (kept : Kept) (mask : List ℕ) (i : ℕ) → keeps kept (maskBit mask i) < 2
+keeps-lt UnderOnes mask i = maskBit-lt mask i
+keeps-lt UnderZeros mask i = omega arith
+
+-- the bit that is left at place k
+abbrev pub left : Kept → ℕ → List ℕ → List ℕ → ℕ → ℕ
+left kept pos mask xs k = min (bitAt xs k) (keeps kept (maskBit mask (k - pos)))
+
+pub bits-left : (kept : Kept) (pos : ℕ) (mask xs : List ℕ) → Bits (left kept pos mask xs)
+bits-left kept pos mask xs k = omega (arith, bitAt-lt xs k)
+
+-- the bit that a loop comes to is as it was, so what it writes there is the bit that is left
+pub left-here : (kept : Kept) (pos i : ℕ) (mask xs ys : List ℕ) → pos + i < 8 * length xs → ys ≡ overlaid (within i pos) (left kept pos mask xs) xs
+    → bitAnd (bitAt ys (pos + i)) (keeps kept (maskBit mask i)) ≡ left kept pos mask xs (pos + i)
+left-here kept pos i mask xs ys l e =
+    let back : pos + i - pos ≡ i = omega arith in
+    let old : bitAt ys (pos + i) ≡ bitAt xs (pos + i) =
+    ap (λ (zs : List ℕ). bitAt zs (pos + i)) e ∙ bitAt-overlaid (within i pos) (left kept pos mask xs) xs (bits-left kept pos mask xs) (pos + i) l ∙ rw (within-out i pos (pos + i) (omega arith)) in
+    rw (old, back) (and-two (bitAt xs (pos + i)) (keeps kept (maskBit mask i)) (bitAt-lt xs (pos + i)) (keeps-lt kept mask i))
