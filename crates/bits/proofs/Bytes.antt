@@ -5,7 +5,8 @@ use mathlib.Core.Bool.{Bool, true, false, cond}
 use mathlib.Core.List.{List, [], _∷_, _++_}
 use Prim.Native.Nat.{ℕ, zero, suc, _+_, _-_, _*_, _/_, _%_, _^_, _≤_, _<_, min, max}
 use native.Mathlib.Omega.{arith}
-use lib.ListN.{length, getD, replicate}
+use native.Mathlib.Nat.{zero-add}
+use lib.ListN.{length, getD, drop, replicate}
 use borrow.Author.Tests.{lt-ltb, le-ltb}
 use Rattle.kinds.proofs.Compare.{below}
 use Rattle.bits.specs.Bits.{bit, bitAt, number, packed}
@@ -85,3 +86,11 @@ pub packed-zero : (n : ℕ) → packed n (λ k. 0) ≡ replicate n 0
 unfolding packed number
 packed-zero zero = refl
 packed-zero (suc n) = ap (λ (l : List ℕ). 0 ∷ l) (packed-zero n)
+
+-- the first bytes hold the highest bits: to drop them is to keep the others
+pub drop-packed : (e n : ℕ) (f : ℕ → ℕ) → drop e (packed (e + n) f) ≡ packed n f
+unfolding packed
+drop-packed zero n f = rw zero-add
+drop-packed (suc e) n f =
+    let up : suc e + n ≡ suc (e + n) = omega arith in
+    rw up (drop-packed e n f)

@@ -16,7 +16,7 @@ use Rattle.kinds.specs.declared.types.ByteOrder.{ByteOrder}
 use Rattle.order.specs.Order.{ordered}
 use Rattle.order.proofs.Index.{length-ordered}
 use Rattle.kinds.proofs.Compare.{below, same}
-use Rattle.bits.specs.Bits.{bit, bitAt, packed, place, update, orBit}
+use Rattle.bits.specs.Bits.{bit, bitAt, packed, place, update, orBit, orBitChecked}
 use Rattle.bits.proofs.Numbers.{bit-lt, bit-or, bit-and, bit-not, bit-shl}
 use Rattle.bits.proofs.Bytes.{Bytes, bitAt-in, bitAt-out, packed-ext, repack}
 
@@ -131,7 +131,7 @@ set-orBit clear xs j o b v h l lo lb e =
 
 -- `set_bit_checked` at the byte and the offset of bit i
 pub set-bit-at : (clear : Bool) (xs : List ℕ) (i v : ℕ) → i < 8 * length xs
-    → cond (ltb (length xs - i / 8 - 1) (length xs)) (orBit clear xs (place (length xs) (length xs - i / 8 - 1) (i % 8)) v) xs ≡ orBit clear xs i v
+    → orBitChecked clear xs (length xs - i / 8 - 1) (i % 8) v ≡ orBit clear xs i v
 set-bit-at clear xs i v h =
     let at : place (length xs) (length xs - i / 8 - 1) (i % 8) ≡ i = omega arith in
     rw (lt-ltb (length xs - i / 8 - 1) (length xs) (omega arith), at)

@@ -34,3 +34,7 @@ update f i v k = cond (eqb k i) v (f k)
 -- the bytes xs after the lowest bit of v is ORed into bit i, which is cleared first or not
 unfoldable pub orBit : Bool → List ℕ → ℕ → ℕ → List ℕ
 orBit clear xs i v = packed (length xs) (update (bitAt xs) i (max (cond clear 0 (bitAt xs i)) (v % 2)))
+
+-- the same at the offset o of byte j, where there is such a byte
+abbrev pub orBitChecked : Bool → List ℕ → ℕ → ℕ → ℕ → List ℕ
+orBitChecked clear xs j o v = cond (ltb j (length xs)) (orBit clear xs (place (length xs) j o) v) xs

@@ -1,12 +1,11 @@
 // Bits of bytes: one bit read or set, a run of bits taken out of bytes, and a run of bits ORed into bytes.
 ghost use mathlib.Core.Path.{_≡_};
-ghost use mathlib.Core.Bool.{cond};
 ghost use Prim.Native.Nat.{_+_, _*_, _<_, _≤_, min};
 ghost use lib.ListN.{length, replicate};
 ghost use lib.Dec.{ltb};
 ghost use Rattle.kinds.specs.Types.{bytesFor};
 ghost use Rattle.order.specs.Order.{ordered};
-ghost use Rattle.bits.specs.Bits.{bitAt, place, orBit};
+ghost use Rattle.bits.specs.Bits.{bitAt, orBit, orBitChecked};
 ghost use Rattle.bits.specs.Moves.{extracted, injected};
 use kinds::ByteOrder;
 
@@ -29,7 +28,7 @@ pub fn set_bit_checked(
 ) -> bool
     requires { ⌜ «dst_bit_offset» < 8 ⌝ }
     ensures { λ r. ⌜ r ≡ ltb «dst_byte_index» (length (now («result_bytes» .entry))) ⌝ }
-    ensures { λ _. ⌜ now («result_bytes» .exit) ≡ cond (ltb «dst_byte_index» (length (now («result_bytes» .entry)))) (orBit «clear_bit» (now («result_bytes» .entry)) (place (length (now («result_bytes» .entry))) «dst_byte_index» «dst_bit_offset») «bit_value») (now («result_bytes» .entry)) ⌝ }
+    ensures { λ _. ⌜ now («result_bytes» .exit) ≡ orBitChecked «clear_bit» (now («result_bytes» .entry)) «dst_byte_index» «dst_bit_offset» «bit_value» ⌝ }
 {
     if dst_byte_index < result_bytes.len() {
         let mut byte = result_bytes[dst_byte_index];
@@ -93,7 +92,8 @@ pub fn extract_bits(
     }
 }
 
-fn least(a: usize, b: usize) -> usize
+// The smaller of two numbers.
+pub fn least(a: usize, b: usize) -> usize
     ensures { λ r. ⌜ r ≡ min a b ⌝ }
 {
     if a < b { a } else { b }

@@ -35,17 +35,17 @@ keeps-lt UnderOnes mask i = maskBit-lt mask i
 keeps-lt UnderZeros mask i = omega arith
 
 -- the bit that is left at place k
-abbrev pub left : Kept → ℕ → List ℕ → List ℕ → ℕ → ℕ
-left kept pos mask xs k = min (bitAt xs k) (keeps kept (maskBit mask (k - pos)))
+abbrev pub keptBit : Kept → ℕ → List ℕ → List ℕ → ℕ → ℕ
+keptBit kept pos mask xs k = min (bitAt xs k) (keeps kept (maskBit mask (k - pos)))
 
-pub bits-left : (kept : Kept) (pos : ℕ) (mask xs : List ℕ) → Bits (left kept pos mask xs)
-bits-left kept pos mask xs k = omega (arith, bitAt-lt xs k)
+pub bits-keptBit : (kept : Kept) (pos : ℕ) (mask xs : List ℕ) → Bits (keptBit kept pos mask xs)
+bits-keptBit kept pos mask xs k = omega (arith, bitAt-lt xs k)
 
 -- the bit that a loop comes to is as it was, so what it writes there is the bit that is left
-pub left-here : (kept : Kept) (pos i : ℕ) (mask xs ys : List ℕ) → pos + i < 8 * length xs → ys ≡ overlaid (within i pos) (left kept pos mask xs) xs
-    → bitAnd (bitAt ys (pos + i)) (keeps kept (maskBit mask i)) ≡ left kept pos mask xs (pos + i)
-left-here kept pos i mask xs ys l e =
+pub keptBit-here : (kept : Kept) (pos i : ℕ) (mask xs ys : List ℕ) → pos + i < 8 * length xs → ys ≡ overlaid (within i pos) (keptBit kept pos mask xs) xs
+    → bitAnd (bitAt ys (pos + i)) (keeps kept (maskBit mask i)) ≡ keptBit kept pos mask xs (pos + i)
+keptBit-here kept pos i mask xs ys l e =
     let back : pos + i - pos ≡ i = omega arith in
     let old : bitAt ys (pos + i) ≡ bitAt xs (pos + i) =
-    ap (λ (zs : List ℕ). bitAt zs (pos + i)) e ∙ bitAt-overlaid (within i pos) (left kept pos mask xs) xs (bits-left kept pos mask xs) (pos + i) l ∙ rw (within-out i pos (pos + i) (omega arith)) in
+    ap (λ (zs : List ℕ). bitAt zs (pos + i)) e ∙ bitAt-overlaid (within i pos) (keptBit kept pos mask xs) xs (bits-keptBit kept pos mask xs) (pos + i) l ∙ rw (within-out i pos (pos + i) (omega arith)) in
     rw (old, back) (and-two (bitAt xs (pos + i)) (keeps kept (maskBit mask i)) (bitAt-lt xs (pos + i)) (keeps-lt kept mask i))

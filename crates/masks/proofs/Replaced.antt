@@ -3,8 +3,7 @@ use mathlib.Core.Path.{_≡_, refl, sym, ap, _∙_}
 use mathlib.Core.Logic.{⊎-elim}
 use mathlib.Core.Bool.{Bool, true, false, cond}
 use mathlib.Core.List.{List}
-use Prim.Native.Nat.{ℕ, zero, suc, _+_, _*_, _≤_, _<_, min}
-use native.Mathlib.Numerals.{add-one}
+use Prim.Native.Nat.{ℕ, _+_, _*_, _≤_, _<_, min}
 use native.Mathlib.Omega.{arith}
 use lib.ListN.{length}
 use lib.Dec.{eqb, ltb}
@@ -16,15 +15,6 @@ use Rattle.bits.proofs.Numbers.{Bits, and-two}
 use Rattle.bits.proofs.Bytes.{bitAt-lt}
 use Rattle.bits.proofs.Moves.{bits-cond}
 use Rattle.masks.specs.Condensed.{onesBelow, replacement, replaced}
-
-pub onesBelow-next : (m : ℕ → ℕ) (i : ℕ) → onesBelow m (i + 1) ≡ onesBelow m i + m i
-unfolding onesBelow
-onesBelow-next m i = rw (add-one, onesBelow)
-
-pub onesBelow-le : (m : ℕ → ℕ) → Bits m → (i : ℕ) → onesBelow m i ≤ i
-unfolding onesBelow
-onesBelow-le m b zero = omega arith
-onesBelow-le m b (suc i) = omega (arith, onesBelow-le m b i, b i)
 
 pub replacement-in : (input : List ℕ) (k : ℕ) → k < 8 * length input → bitAt input k ≡ replacement input k
 unfolding replacement

@@ -12,7 +12,7 @@ use Rattle.bits.specs.Bits.{bit, bitAt, number, packed}
 use Rattle.bits.specs.Moves.{extracted, injected, overlaid}
 use Rattle.masks.specs.declared.plain.Kept.the-variants.{UnderOnes, UnderZeros}
 use Rattle.masks.specs.Plain.{maskBit, masked}
-use Rattle.masks.specs.Condensed.{frontBit, gathered, picked, bitsOf, onesOf, onesBelow, replacement, replaced}
+use Rattle.masks.specs.Condensed.{frontBit, onesBelow, gathered, onesOf, condensedCount, condensed, replacement, replaced}
 
 -- what the definitions give, and what they should
 record Example : Type 0 where
@@ -52,16 +52,18 @@ examples =
     ∷ (masked UnderOnes 4 4 (0x00 ∷ []) (extracted 4 4 (0xF0 ∷ [])) is (0x0F ∷ []))
     ∷ (masked UnderOnes 4 2 [] (extracted 4 2 (0xFF ∷ [])) is (0x03 ∷ []))
     -- i: gathered through a condensed mask, and put back to its ones
-    ∷ (packed 1 (bitsOf (picked (0xF0 ∷ []) 8 (bitAt (0xA5 ∷ [])))) is (0x0A ∷ []))
+    ∷ (condensed (0xF0 ∷ []) 8 (bitAt (0xA5 ∷ [])) is (0x0A ∷ []))
     ∷ (injected 8 0 (replaced (0xF0 ∷ []) (0x0A ∷ [])) (masked UnderZeros 8 0 (0xF0 ∷ []) (0x05 ∷ [])) is (0xA5 ∷ []))
-    -- j: no one of the mask is met within 4 bits
-    ∷ (picked (0xF0 ∷ []) 4 (bitAt (0x0F ∷ [])) is [])
-    -- k: 1 one is met, and the mask has 17; and ones that no input is left for
-    ∷ (packed 2 (bitsOf (picked (0x00 ∷ 0x01 ∷ 0xFF ∷ 0xFF ∷ []) 16 (bitAt (0x00 ∷ 0x01 ∷ [])))) is (0x00 ∷ 0x01 ∷ []))
-    ∷ ((onesOf (0x00 ∷ 0x01 ∷ 0xFF ∷ 0xFF ∷ []) ∷ []) is (17 ∷ []))
+    -- j: no one of the mask is met within 4 bits, and a byte is given for those that it has
+    ∷ (condensed (0xF0 ∷ []) 4 (bitAt (0x0F ∷ [])) is (0x00 ∷ []))
+    -- k: 1 one is met and the mask has 17, so a byte is dropped and 16 bits are counted; and ones that no input is left for
+    ∷ (condensed (0x00 ∷ 0x01 ∷ 0xFF ∷ 0xFF ∷ []) 16 (bitAt (0x00 ∷ 0x01 ∷ [])) is (0x01 ∷ []))
+    ∷ ((condensedCount (0x00 ∷ 0x01 ∷ 0xFF ∷ 0xFF ∷ []) 16 ∷ []) is (16 ∷ []))
     ∷ (injected 16 0 (replaced (0xFF ∷ 0xFF ∷ []) (0x12 ∷ [])) (0x00 ∷ 0x00 ∷ []) is (0xFF ∷ 0x12 ∷ []))
+    -- 16 bits are gathered and 24 counted: of three bytes two are dropped, with gathered bits in them
+    ∷ (condensed (0x00 ∷ 0xFF ∷ 0xFF ∷ 0xFF ∷ 0xFF ∷ []) 24 (bitAt (0x11 ∷ 0x22 ∷ 0x33 ∷ [])) is (0x33 ∷ []))
     ∷ []
 
 all-hold : hold examples ≡ true
-unfolding examples ordered swapPairs bit bitAt number packed extracted injected overlaid maskBit frontBit gathered onesOf ones onesIn onesBelow replacement replaced
+unfolding examples ordered swapPairs bit bitAt number packed extracted injected overlaid maskBit frontBit gathered onesOf ones onesIn condensed onesBelow replacement replaced
 all-hold = refl

@@ -8,7 +8,7 @@ ghost use Rattle.kinds.specs.Types.{bytesFor};
 ghost use Rattle.order.specs.Order.{ordered};
 ghost use Rattle.bits.specs.Bits.{bitAt, packed, orBit};
 ghost use Rattle.bits.specs.Moves.{from, injected};
-ghost use Rattle.masks.specs.Condensed.{frontBit, picked, bitsOf, onesOf, replacement, replaced};
+ghost use Rattle.masks.specs.Condensed.{frontBit, onesBelow, picked, bitsOf, onesOf, condensedCount, condensedBytes, replacement, replaced};
 use kinds::ByteOrder;
 
 // How many ones the mask has, all of its bytes counted.
@@ -35,6 +35,47 @@ fn front_bit_at(mask: &[u8], n: usize, i: usize) -> u8
         return (mask[byte] >> (i % 8)) & 1;
     }
     0
+}
+
+// How many ones of the mask a field of so many bits meets.
+fn count_met_ones(bit_mask: &[u8], bit_len: usize) -> usize
+    requires { ⌜ «bit_len» < 2 ^ 32 ⌝ }
+    ensures { λ r. ⌜ r ≡ onesBelow (frontBit (now («bit_mask» .entry)) (bytesFor «bit_len»)) «bit_len» ⌝ }
+{
+    let field_bytes = (bit_len + 7) / 8;
+    let mut count: usize = 0;
+    for i in 0..bit_len {
+        count += front_bit_at(bit_mask, field_bytes, i) as usize;
+    }
+    count
+}
+
+// How much a condensed reading gives.
+pub struct CondensedSize {
+    pub bits: usize,
+    pub bytes: usize,
+}
+
+// How many bits and how many bytes a condensed reading gives of a field of so many bits. Nothing is read of the field.
+pub fn condensed_size(bit_mask: &[u8], bit_len: usize) -> CondensedSize
+    requires { ⌜ length (now «bit_mask») ≤ 65535 ⌝ }
+    requires { ⌜ «bit_len» < 2 ^ 32 ⌝ }
+    ensures { λ r. ⌜ r .«bits» ≡ condensedCount (now («bit_mask» .entry)) «bit_len» ⌝ }
+    ensures { λ r. ⌜ r .bytes ≡ condensedBytes (now («bit_mask» .entry)) «bit_len» ⌝ }
+{
+    let max_bits = bits::least(bit_len, count_mask_ones(bit_mask));
+    let result_byte_count = (max_bits + 7) / 8;
+    let filled = (count_met_ones(bit_mask, bit_len) + 7) / 8;
+    if filled < result_byte_count {
+        return CondensedSize {
+            bits: max_bits,
+            bytes: result_byte_count - filled,
+        };
+    }
+    CondensedSize {
+        bits: max_bits,
+        bytes: result_byte_count,
+    }
 }
 
 // Where the mask bit is one, puts a bit behind the count that are there, if there is room. Answers how many are gathered.

@@ -8,7 +8,8 @@ use Rattle.bits.specs.Moves.{injected}
 use Rattle.bits.proofs.Bytes.{bitAt-lt}
 use Rattle.bits.proofs.Steps.{injected-none, injected-step}
 use Rattle.masks.specs.Condensed.{onesBelow, replaced}
-use Rattle.masks.proofs.Replaced.{onesBelow-next, onesBelow-le, bits-replaced, replaced-code}
+use Rattle.masks.proofs.Ones.{onesBelow-next, onesBelow-le}
+use Rattle.masks.proofs.Replaced.{bits-replaced, replaced-code}
 use Rattle.masks.proofs.condensed.apply_condensed_mask_packing.Statement.{statement}
 use Rattle.masks.proofs.condensed.apply_condensed_mask_packing.Tie as tie
 

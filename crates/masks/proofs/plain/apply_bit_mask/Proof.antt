@@ -6,19 +6,19 @@ use native.Mathlib.Omega.{arith}
 use borrow.Author.Needs.{needs}
 use Rattle.bits.specs.Moves.{within, overlaid}
 use Rattle.bits.proofs.Steps.{overlaid-none, overlaid-step, overlaid-past}
-use Rattle.masks.proofs.Masked.{left, bits-left, left-here}
+use Rattle.masks.proofs.Masked.{keptBit, bits-keptBit, keptBit-here}
 use Rattle.masks.proofs.plain.apply_bit_mask.Statement.{statement}
 use Rattle.masks.proofs.plain.apply_bit_mask.Tie as tie
 
 abbrev Inv-loop : tie.InvT-loop
 Inv-loop data₀ mask kept bit-len bit-pos i₀ «data» i =
-    (i ≤ bit-len) × (i ≤ 8 * length data₀) × (length «data» ≡ length data₀) × («data» ≡ overlaid (within i bit-pos) (left kept bit-pos mask data₀) data₀)
+    (i ≤ bit-len) × (i ≤ 8 * length data₀) × (length «data» ≡ length data₀) × («data» ≡ overlaid (within i bit-pos) (keptBit kept bit-pos mask data₀) data₀)
 
 abbrev μ-loop : tie.MeasureT-loop
 μ-loop data₀ mask kept bit-len bit-pos i₀ «data» i = bit-len - i
 
 loop-holds : tie.Need-loop-holds Inv-loop μ-loop
-loop-holds c = let s = c .before .before in (omega arith, omega arith, omega arith, overlaid-none (s .args .bit-pos) (left (s .args .kept) (s .args .bit-pos) (s .args .mask .now) (s .args .«data» .now)) (s .args .«data» .now) (λ j. c .before .slice-known .given j .fits))
+loop-holds c = let s = c .before .before in (omega arith, omega arith, omega arith, overlaid-none (s .args .bit-pos) (keptBit (s .args .kept) (s .args .bit-pos) (s .args .mask .now) (s .args .«data» .now)) (s .args .«data» .now) (λ j. c .before .slice-known .given j .fits))
 
 add-if1 : tie.Need-add-if1 Inv-loop μ-loop
 add-if1 c = omega arith
@@ -56,8 +56,8 @@ loop-again c = let k = c .before .before .before .before .before .before .before
       omega arith,
       omega arith,
       c .before .before .set-bit-at .ensures
-          ∙ rw (c .before .before .before .before .bit-at .ensures, c .before .before .before .before .before .before .keeps-at .ensures, left-here (s .args .kept) (s .args .bit-pos) i (s .args .mask .now) (s .args .«data» .now) (k .loop .«data») inside (k .loop .inv .3))
-          (overlaid-step (s .args .bit-pos) i (left (s .args .kept) (s .args .bit-pos) (s .args .mask .now) (s .args .«data» .now)) (s .args .«data» .now) (k .loop .«data») (bits-left (s .args .kept) (s .args .bit-pos) (s .args .mask .now) (s .args .«data» .now)) (k .loop .inv .3)),
+          ∙ rw (c .before .before .before .before .bit-at .ensures, c .before .before .before .before .before .before .keeps-at .ensures, keptBit-here (s .args .kept) (s .args .bit-pos) i (s .args .mask .now) (s .args .«data» .now) (k .loop .«data») inside (k .loop .inv .3))
+          (overlaid-step (s .args .bit-pos) i (keptBit (s .args .kept) (s .args .bit-pos) (s .args .mask .now) (s .args .«data» .now)) (s .args .«data» .now) (k .loop .«data») (bits-keptBit (s .args .kept) (s .args .bit-pos) (s .args .mask .now) (s .args .«data» .now)) (k .loop .inv .3)),
     )
 
 same-length : tie.Need-same-length Inv-loop μ-loop
@@ -65,7 +65,7 @@ same-length c = omega arith
 
 returns : tie.Need-returns Inv-loop μ-loop
 returns c = let s = c .before .before .before .before in
-    c .before .loop .inv .3 ∙ ap (λ (n : ℕ). overlaid (within n (s .args .bit-pos)) (left (s .args .kept) (s .args .bit-pos) (s .args .mask .now) (s .args .«data» .now)) (s .args .«data» .now)) (omega arith)
+    c .before .loop .inv .3 ∙ ap (λ (n : ℕ). overlaid (within n (s .args .bit-pos)) (keptBit (s .args .kept) (s .args .bit-pos) (s .args .mask .now) (s .args .«data» .now)) (s .args .«data» .now)) (omega arith)
 
 same-length-2 : tie.Need-same-length-2 Inv-loop μ-loop
 same-length-2 c = omega arith
@@ -73,7 +73,7 @@ same-length-2 c = omega arith
 returns-2 : tie.Need-returns-2 Inv-loop μ-loop
 returns-2 c = let k = c .before .before in
     let s = c .before .before .before .before .before in
-    k .loop .inv .3 ∙ overlaid-past (k .loop .i) (s .args .bit-len) (s .args .bit-pos) (left (s .args .kept) (s .args .bit-pos) (s .args .mask .now) (s .args .«data» .now)) (s .args .«data» .now) (omega arith) (omega arith)
+    k .loop .inv .3 ∙ overlaid-past (k .loop .i) (s .args .bit-len) (s .args .bit-pos) (keptBit (s .args .kept) (s .args .bit-pos) (s .args .mask .now) (s .args .«data» .now)) (s .args .«data» .now) (omega arith) (omega arith)
 
 pub apply-bit-mask-spec : {M : Type 1} → statement M
 apply-bit-mask-spec =
