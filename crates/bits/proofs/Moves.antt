@@ -1,20 +1,19 @@
 -- The bits of `first`, `raised`, `either`, `within` and `overlaid`, place by place. Assumes nothing.
-use mathlib.Core.Path.{_≡_, refl, sym, ap, ap₂, _∙_}
-use mathlib.Core.Logic.{_⊎_, inl, inr, ⊎-elim}
-use mathlib.Core.Bool.{Bool, true, false, cond}
-use mathlib.Core.List.{List, [], _∷_}
-use Prim.Native.Nat.{ℕ, zero, suc, _+_, _-_, _*_, _/_, _%_, _^_, _≤_, _<_, min, max}
+use mathlib.Core.Path.{_≡_, sym, ap, _∙_}
+use mathlib.Core.Logic.{_⊎_, ⊎-elim}
+use mathlib.Core.Bool.{Bool, true, false, cond, _&&_}
+use mathlib.Core.List.{List}
+use Prim.Native.Nat.{ℕ, _+_, _-_, _*_, _≤_, _<_, min}
 use native.Mathlib.Omega.{arith}
 use lib.ListN.{length}
 use lib.Dec.{ltb, leb}
 use borrow.Author.Tests.{lt-ltb, le-ltb, le-leb, lt-leb}
-use mathlib.Core.Bool.{_&&_}
 use Rattle.kinds.specs.Types.{bytesFor}
-use Rattle.kinds.proofs.Compare.{below, same}
-use Rattle.bits.specs.Bits.{bitAt, packed}
+use Rattle.kinds.proofs.Compare.{below}
+use Rattle.bits.specs.Bits.{bitAt}
 use Rattle.bits.specs.Moves.{first, from, raised, either, extracted, injected, within, overlaid}
 use Rattle.bits.proofs.Numbers.{Bits}
-use Rattle.bits.proofs.Bytes.{bitAt-lt, bitAt-out, bitAt-packed, length-packed, packed-ext}
+use Rattle.bits.proofs.Bytes.{bitAt-lt, bitAt-out, bitAt-packed, length-packed}
 
 -- ---- they give bits
 

@@ -1,7 +1,7 @@
 -- Document 01, rows 10 to 13 and 20 to 25 of the refusals, in the order of its paragraph 'Order'. Assumes nothing.
 use Prim.Native.Nat.{ℕ, _%_}
-use mathlib.Core.Bool.{Bool, true, false, not, _&&_, _||_}
-use mathlib.Core.List.{List, [], _∷_}
+use mathlib.Core.Bool.{Bool, true, false, not, _&&_}
+use mathlib.Core.List.{[], _∷_}
 use lib.Dec.{eqb, ltb}
 use Rattle.kinds.specs.declared.types.DataType.{DataType}
 use Rattle.kinds.specs.declared.types.DataType.the-variants.{Int32, UInt32, Float32, Float64}

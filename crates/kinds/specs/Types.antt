@@ -1,6 +1,6 @@
 -- Document 01, 'Domain' and 'Bits and byte order': the byte types, and what becomes of the order of bytes. Assumes nothing.
 use Prim.Native.Nat.{ℕ, _+_, _/_}
-use mathlib.Core.Bool.{Bool, true, false, cond, not, _||_}
+use mathlib.Core.Bool.{Bool, false, cond, not, _||_}
 use mathlib.Core.List.{List, [], _∷_}
 use lib.Dec.{eqb}
 use Rattle.kinds.specs.declared.types.DataType.{DataType}

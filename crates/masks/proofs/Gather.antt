@@ -3,20 +3,18 @@ use mathlib.Core.Path.{_≡_, refl, sym, ap, _∙_}
 use mathlib.Core.Logic.{⊎-elim}
 use mathlib.Core.Bool.{Bool, true, false, cond}
 use mathlib.Core.List.{List, [], _∷_, _++_, append-nil}
-use Prim.Native.Nat.{ℕ, zero, suc, _+_, _-_, _*_, _/_, _%_, _^_, _≤_, _<_, max}
+use Prim.Native.Nat.{ℕ, zero, suc, _+_, _-_, _/_, _%_, _^_, _≤_, _<_}
 use native.Mathlib.Numerals.{add-one}
 use native.Mathlib.Omega.{arith}
 use lib.ListN.{length, getD, length-append, List·getD-eq-default}
-use lib.Dec.{eqb, eqb·zero-suc, eqb·suc-zero, eqb·suc-suc}
+use lib.Dec.{eqb}
 use lib.Bits.{bitAnd, and-mask}
 use borrow.Author.Tests.{eq-eqb, ne-eqb}
-use Rattle.kinds.specs.Types.{bytesFor}
 use Rattle.kinds.proofs.Compare.{same}
-use Rattle.bits.specs.Bits.{bit, packed, update, orBit}
+use Rattle.bits.specs.Bits.{bit, packed, orBit}
 use Rattle.bits.proofs.Numbers.{Bits, bit-of-zero}
-use Rattle.bits.proofs.Bytes.{packed-zero}
 use Rattle.bits.proofs.Steps.{orBit-step}
-use Rattle.masks.specs.Condensed.{frontBit, gathered, picked, bitsOf}
+use Rattle.masks.specs.Condensed.{frontBit, gathered, bitsOf}
 
 -- ---- one bit more
 

@@ -1,12 +1,10 @@
 -- Bits under a plain mask: what the code reads of it, and the bit that a loop comes to. Assumes nothing.
-use mathlib.Core.Path.{_≡_, sym, ap, _∙_}
+use mathlib.Core.Path.{_≡_, ap, _∙_}
 use mathlib.Core.List.{List}
-use Prim.Native.Nat.{ℕ, _+_, _-_, _*_, _/_, _%_, _^_, _≤_, _<_, min}
-use mathlib.Core.Bool.{false}
+use Prim.Native.Nat.{ℕ, _+_, _-_, _*_, _/_, _%_, _^_, _<_, min}
 use native.Mathlib.Omega.{arith}
 use lib.ListN.{length, getD, List·getD-eq-default}
 use lib.Bits.{bitAnd, and-mask}
-use borrow.Author.Tests.{le-ltb, le-leb}
 use Rattle.bits.specs.Bits.{bit, bitAt}
 use Rattle.bits.specs.Moves.{within, overlaid}
 use Rattle.bits.proofs.Numbers.{Bits, bit-lt, bit-of-zero, and-two}

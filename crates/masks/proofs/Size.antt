@@ -1,16 +1,16 @@
 -- How many bits a condensed reading gathers, and how many bytes it gives. Assumes nothing.
 use mathlib.Core.Path.{_≡_, refl, sym, ap, ap₂, _∙_}
 use mathlib.Core.Logic.{⊎-elim}
-use mathlib.Core.Bool.{Bool, cond}
-use mathlib.Core.List.{List, [], _∷_}
+use mathlib.Core.Bool.{cond}
+use mathlib.Core.List.{List}
 use Prim.Native.Nat.{ℕ, zero, suc, _+_, _-_, _/_, _%_, _≤_, _<_}
 use native.Mathlib.Omega.{arith}
-use lib.ListN.{length, getD, drop, length-append}
+use lib.ListN.{length, getD, length-append}
 use lib.Dec.{ltb}
 use borrow.Author.Tests.{lt-ltb, le-ltb, eq-eqb, ne-eqb}
 use Rattle.kinds.specs.Types.{bytesFor}
 use Rattle.kinds.proofs.Compare.{below, same}
-use Rattle.bits.specs.Bits.{bit, packed}
+use Rattle.bits.specs.Bits.{packed}
 use Rattle.bits.proofs.Numbers.{Bits, bit-lt}
 use Rattle.bits.proofs.Bytes.{length-packed, drop-packed}
 use Rattle.masks.specs.Condensed.{frontBit, onesBelow, gathered, picked, bitsOf, condensedCount, dropBelow, condensed, condensedBytes}

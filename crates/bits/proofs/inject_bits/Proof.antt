@@ -1,5 +1,5 @@
 -- `bits::inject_bits` meets its contract. The loop's invariant: the first i bits are ORed in. Assumes nothing.
-use Prim.Native.Nat.{ℕ, _-_, _*_, _≤_, min}
+use Prim.Native.Nat.{ℕ, _-_, _≤_}
 use mathlib.Core.Path.{_≡_, _∙_, ap}
 use lib.ListN.{length}
 use native.Mathlib.Omega.{arith}

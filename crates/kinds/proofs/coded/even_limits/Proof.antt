@@ -1,6 +1,5 @@
 -- `even_limits` meets its contract. Assumes nothing.
-use borrow.Author.Tests.{eq-eqb, ne-eqb, lt-ltb, le-ltb}
-use borrow.Author.Tests.{eq-eqb, ne-eqb, lt-ltb, le-ltb, le-leb}
+use borrow.Author.Tests.{eq-eqb, ne-eqb}
 use borrow.Author.Needs.{needs}
 use Rattle.kinds.proofs.coded.even_limits.Statement.{statement}
 use Rattle.kinds.proofs.coded.even_limits.Tie as tie

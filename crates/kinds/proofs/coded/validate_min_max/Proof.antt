@@ -10,7 +10,6 @@ use Rattle.kinds.specs.Rules.{rule, firstOf}
 use Rattle.kinds.specs.Refusals.{evenLimits, codedTypeRefusal}
 use mathlib.Core.Path.{_≡_, ap, sym, _∙_}
 use borrow.Author.Tests.{not-true, not-false}
-use borrow.Author.Tests.{eq-eqb, ne-eqb, lt-ltb, le-ltb, le-leb}
 use borrow.Author.Needs.{needs}
 use Rattle.kinds.proofs.coded.validate_min_max.Statement.{statement}
 use Rattle.kinds.proofs.coded.validate_min_max.Tie as tie

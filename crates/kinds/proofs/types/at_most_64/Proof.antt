@@ -1,5 +1,5 @@
 -- `at_most_64` meets its contract. Assumes nothing.
-use borrow.Author.Tests.{eq-eqb, ne-eqb, lt-ltb, le-ltb, le-leb}
+use borrow.Author.Tests.{lt-ltb, le-ltb}
 use Rattle.kinds.proofs.types.at_most_64.Statement.{statement}
 use Rattle.kinds.proofs.types.at_most_64.Tie as tie
 

@@ -1,5 +1,4 @@
 -- `Refusal::number` meets its contract. Assumes nothing.
-use borrow.Author.Tests.{eq-eqb, ne-eqb, lt-ltb, le-ltb, le-leb}
 use borrow.Author.Needs.{needs}
 use Rattle.kinds.proofs.refusals.Refusal.number.Statement.{statement}
 use Rattle.kinds.proofs.refusals.Refusal.number.Tie as tie

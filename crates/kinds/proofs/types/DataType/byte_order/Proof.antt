@@ -1,5 +1,4 @@
 -- `DataType::byte_order` meets its contract. Assumes nothing.
-use borrow.Author.Tests.{eq-eqb, ne-eqb, lt-ltb, le-ltb, le-leb}
 use borrow.Author.Needs.{needs}
 use Rattle.kinds.proofs.types.DataType.byte_order.Statement.{statement}
 use Rattle.kinds.proofs.types.DataType.byte_order.Tie as tie

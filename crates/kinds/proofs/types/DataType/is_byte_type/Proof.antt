@@ -1,5 +1,4 @@
 -- `DataType::is_byte_type` meets its contract. Assumes nothing.
-use borrow.Author.Tests.{eq-eqb, ne-eqb, lt-ltb, le-ltb, le-leb}
 use borrow.Author.Needs.{needs}
 use Rattle.kinds.proofs.types.DataType.is_byte_type.Statement.{statement}
 use Rattle.kinds.proofs.types.DataType.is_byte_type.Tie as tie

@@ -1,5 +1,4 @@
 -- `DataType::is_unicode` meets its contract. Assumes nothing.
-use borrow.Author.Tests.{eq-eqb, ne-eqb, lt-ltb, le-ltb, le-leb}
 use borrow.Author.Needs.{needs}
 use Rattle.kinds.proofs.types.DataType.is_unicode.Statement.{statement}
 use Rattle.kinds.proofs.types.DataType.is_unicode.Tie as tie

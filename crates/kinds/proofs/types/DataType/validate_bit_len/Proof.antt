@@ -1,5 +1,5 @@
 -- `DataType::validate_bit_len` meets its contract. Assumes nothing.
-use borrow.Author.Tests.{eq-eqb, ne-eqb, lt-ltb, le-ltb, le-leb}
+use borrow.Author.Tests.{eq-eqb, ne-eqb}
 use borrow.Author.Needs.{needs}
 use Rattle.kinds.proofs.types.DataType.validate_bit_len.Statement.{statement}
 use Rattle.kinds.proofs.types.DataType.validate_bit_len.Tie as tie
