@@ -7,6 +7,7 @@ ghost use Rattle.kinds.specs.Types.{bytesFor};
 ghost use Rattle.order.specs.Order.{ordered};
 ghost use Rattle.bits.specs.Bits.{bitAt, orBit, orBitChecked};
 ghost use Rattle.bits.specs.Moves.{extracted, injected};
+use kinds::BitLength;
 use kinds::ByteOrder;
 
 // Bit i of the bytes.
@@ -74,19 +75,19 @@ pub fn zero(data: &mut [u8])
 
 // Takes bits of the ordered form of the data from a bit position on, right-aligned.
 pub fn extract_bits(
-    bit_len: usize,
+    bit_len: BitLength,
     bit_pos: usize,
     data: &[u8],
     byte_order: ByteOrder,
     result_bytes: &mut [u8],
 )
     requires { ⌜ length (now «data») ≤ 65535 ⌝ }
-    requires { ⌜ «bit_pos» + «bit_len» ≤ 8 * length (now «data») ⌝ }
-    requires { ⌜ length (now «result_bytes») ≡ bytesFor «bit_len» ⌝ }
-    ensures { λ _. ⌜ now («result_bytes» .exit) ≡ extracted «bit_len» «bit_pos» (ordered «byte_order» (now («data» .entry))) ⌝ }
+    requires { ⌜ «bit_pos» + «bit_len» .0 ≤ 8 * length (now «data») ⌝ }
+    requires { ⌜ length (now «result_bytes») ≡ bytesFor («bit_len» .0) ⌝ }
+    ensures { λ _. ⌜ now («result_bytes» .exit) ≡ extracted («bit_len» .0) «bit_pos» (ordered «byte_order» (now («data» .entry))) ⌝ }
 {
     zero(result_bytes);
-    for i in 0..bit_len {
+    for i in 0..bit_len.bits() {
         let bit_value = ordered_bit_at(data, byte_order, bit_pos + i);
         set_bit_at(result_bytes, i, bit_value, false);
     }
@@ -100,13 +101,13 @@ pub fn least(a: usize, b: usize) -> usize
 }
 
 // ORs bits of the source into the destination from a bit position on. Past its end the source has zeros.
-pub fn inject_bits(bit_len: usize, bit_pos: usize, dst_data: &mut [u8], source_data: &[u8])
+pub fn inject_bits(bit_len: BitLength, bit_pos: usize, dst_data: &mut [u8], source_data: &[u8])
     requires { ⌜ length (now «source_data») ≤ 65535 ⌝ }
     requires { ⌜ length (now «dst_data») ≤ 65535 ⌝ }
-    requires { ⌜ «bit_pos» + «bit_len» ≤ 8 * length (now «dst_data») ⌝ }
-    ensures { λ _. ⌜ now («dst_data» .exit) ≡ injected «bit_len» «bit_pos» (bitAt (now («source_data» .entry))) (now («dst_data» .entry)) ⌝ }
+    requires { ⌜ «bit_pos» + «bit_len» .0 ≤ 8 * length (now «dst_data») ⌝ }
+    ensures { λ _. ⌜ now («dst_data» .exit) ≡ injected («bit_len» .0) «bit_pos» (bitAt (now («source_data» .entry))) (now («dst_data» .entry)) ⌝ }
 {
-    let count = least(bit_len, source_data.len() * 8);
+    let count = least(bit_len.bits(), source_data.len() * 8);
     for i in 0..count {
         let bit_value = bit_at(source_data, i);
         set_bit_at(dst_data, bit_pos + i, bit_value, false);

@@ -1,7 +1,7 @@
 // Data types, bit lengths and byte counts, byte order, and the checks of bit position and bit length.
 ghost use mathlib.Core.Path.{_≡_};
 ghost use mathlib.Core.Bool.{cond};
-ghost use Prim.Native.Nat.{_*_, _≤_};
+ghost use Prim.Native.Nat.{_*_, _≤_, min};
 ghost use lib.Dec.{ltb};
 ghost use Rattle.kinds.specs.Types.{isByteType, isUnicode, byteOrder, bytesFor};
 ghost use Rattle.kinds.specs.Answers.{numberOfCheck};
@@ -38,6 +38,17 @@ impl BitLength {
         ensures { λ r. ⌜ r ≡ self .0 ⌝ }
     {
         self.0 as usize
+    }
+
+    // So many bits, or fewer where there are no more.
+    pub fn at_most(self, bits: usize) -> BitLength
+        ensures { λ r. ⌜ r .0 ≡ min (self .0) «bits» ⌝ }
+    {
+        let most = self.0;
+        if (most as usize) < bits {
+            return BitLength(most);
+        }
+        BitLength(bits as u32)
     }
 
     // The bytes that hold so many bits.

@@ -62,6 +62,6 @@ module _ (mask : List ℕ) (len : ℕ) where
   pub length-condensed : (field : ℕ → ℕ) → length (condensed mask len field) ≡ bytesLeft counted filled
   length-condensed field = ap length (sym (condensed-packed field)) ∙ length-packed (bytesLeft counted filled) (bitsOf (picked mask len field))
 
-  -- the same from the two counts
-  pub bytesLeft-counts : (t g : ℕ) → t ≡ condensedCount mask len → g ≡ onesBelow (frontBit mask (bytesFor len)) len → bytesLeft (bytesFor t) (bytesFor g) ≡ condensedBytes mask len
-  bytesLeft-counts t g et eg = ap₂ (λ (a b : ℕ). bytesLeft (bytesFor a) (bytesFor b)) et eg ∙ sym (length-condensed (λ k. 0))
+  -- the same from two numbers that are those
+  pub bytesLeft-is : (r e : ℕ) → r ≡ counted → e ≡ filled → bytesLeft r e ≡ condensedBytes mask len
+  bytesLeft-is r e er ee = ap₂ bytesLeft er ee ∙ sym (length-condensed (λ k. 0))

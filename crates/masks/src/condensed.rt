@@ -9,6 +9,8 @@ ghost use Rattle.order.specs.Order.{ordered};
 ghost use Rattle.bits.specs.Bits.{bitAt, packed, orBit};
 ghost use Rattle.bits.specs.Moves.{from, injected};
 ghost use Rattle.masks.specs.Condensed.{frontBit, onesBelow, picked, bitsOf, onesOf, condensedCount, condensedBytes, replacement, replaced};
+use kinds::BitLength;
+use kinds::ByteCount;
 use kinds::ByteOrder;
 
 // How many ones the mask has, all of its bytes counted.
@@ -38,43 +40,41 @@ fn front_bit_at(mask: &[u8], n: usize, i: usize) -> u8
 }
 
 // How many ones of the mask a field of so many bits meets.
-fn count_met_ones(bit_mask: &[u8], bit_len: usize) -> usize
-    requires { ⌜ «bit_len» < 2 ^ 32 ⌝ }
-    ensures { λ r. ⌜ r ≡ onesBelow (frontBit (now («bit_mask» .entry)) (bytesFor «bit_len»)) «bit_len» ⌝ }
+fn count_met_ones(bit_mask: &[u8], bit_len: BitLength) -> BitLength
+    ensures { λ r. ⌜ r .0 ≡ onesBelow (frontBit (now («bit_mask» .entry)) (bytesFor («bit_len» .0))) («bit_len» .0) ⌝ }
 {
-    let field_bytes = (bit_len + 7) / 8;
-    let mut count: usize = 0;
-    for i in 0..bit_len {
-        count += front_bit_at(bit_mask, field_bytes, i) as usize;
+    let field_bytes = bit_len.byte_count().bytes();
+    let mut count: u32 = 0;
+    for i in 0..bit_len.bits() {
+        count += front_bit_at(bit_mask, field_bytes, i) as u32;
     }
-    count
+    BitLength(count)
 }
 
 // How much a condensed reading gives.
 pub struct CondensedSize {
-    pub bits: usize,
-    pub bytes: usize,
+    pub bit_count: BitLength,
+    pub byte_count: ByteCount,
 }
 
 // How many bits and how many bytes a condensed reading gives of a field of so many bits. Nothing is read of the field.
-pub fn condensed_size(bit_mask: &[u8], bit_len: usize) -> CondensedSize
+pub fn condensed_size(bit_mask: &[u8], bit_len: BitLength) -> CondensedSize
     requires { ⌜ length (now «bit_mask») ≤ 65535 ⌝ }
-    requires { ⌜ «bit_len» < 2 ^ 32 ⌝ }
-    ensures { λ r. ⌜ r .«bits» ≡ condensedCount (now («bit_mask» .entry)) «bit_len» ⌝ }
-    ensures { λ r. ⌜ r .bytes ≡ condensedBytes (now («bit_mask» .entry)) «bit_len» ⌝ }
+    ensures { λ r. ⌜ r .«bit_count» .0 ≡ condensedCount (now («bit_mask» .entry)) («bit_len» .0) ⌝ }
+    ensures { λ r. ⌜ r .«byte_count» .0 ≡ condensedBytes (now («bit_mask» .entry)) («bit_len» .0) ⌝ }
 {
-    let max_bits = bits::least(bit_len, count_mask_ones(bit_mask));
-    let result_byte_count = (max_bits + 7) / 8;
-    let filled = (count_met_ones(bit_mask, bit_len) + 7) / 8;
+    let max_bits = bit_len.at_most(count_mask_ones(bit_mask));
+    let result_byte_count = max_bits.byte_count().bytes();
+    let filled = count_met_ones(bit_mask, bit_len).byte_count().bytes();
     if filled < result_byte_count {
         return CondensedSize {
-            bits: max_bits,
-            bytes: result_byte_count - filled,
+            bit_count: max_bits,
+            byte_count: ByteCount(result_byte_count - filled),
         };
     }
     CondensedSize {
-        bits: max_bits,
-        bytes: result_byte_count,
+        bit_count: max_bits,
+        byte_count: ByteCount(result_byte_count),
     }
 }
 
@@ -101,18 +101,18 @@ pub fn gather_bits(
     data: &[u8],
     byte_order: ByteOrder,
     bit_pos: usize,
-    bit_len: usize,
+    bit_len: BitLength,
     result_bytes: &mut [u8],
 ) -> usize
     requires { ⌜ length (now «data») ≤ 65535 ⌝ }
-    requires { ⌜ «bit_pos» + «bit_len» ≤ 8 * length (now «data») ⌝ }
-    ensures { λ r. ⌜ r ≡ length (picked (now («bit_mask» .entry)) «bit_len» (from «bit_pos» (bitAt (ordered «byte_order» (now («data» .entry)))))) ⌝ }
-    ensures { λ _. ⌜ now («result_bytes» .exit) ≡ packed (length (now («result_bytes» .entry))) (bitsOf (picked (now («bit_mask» .entry)) «bit_len» (from «bit_pos» (bitAt (ordered «byte_order» (now («data» .entry))))))) ⌝ }
+    requires { ⌜ «bit_pos» + «bit_len» .0 ≤ 8 * length (now «data») ⌝ }
+    ensures { λ r. ⌜ r ≡ length (picked (now («bit_mask» .entry)) («bit_len» .0) (from «bit_pos» (bitAt (ordered «byte_order» (now («data» .entry)))))) ⌝ }
+    ensures { λ _. ⌜ now («result_bytes» .exit) ≡ packed (length (now («result_bytes» .entry))) (bitsOf (picked (now («bit_mask» .entry)) («bit_len» .0) (from «bit_pos» (bitAt (ordered «byte_order» (now («data» .entry))))))) ⌝ }
 {
     bits::zero(result_bytes);
-    let field_bytes = (bit_len + 7) / 8;
+    let field_bytes = bit_len.byte_count().bytes();
     let mut count = 0;
-    for i in 0..bit_len {
+    for i in 0..bit_len.bits() {
         let mask_bit = front_bit_at(bit_mask, field_bytes, i);
         let bit_value = bits::ordered_bit_at(data, byte_order, bit_pos + i);
         count = gather_bit(result_bytes, count, mask_bit, bit_value);

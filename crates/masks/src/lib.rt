@@ -2,7 +2,9 @@
 mod plain; // plain.rt: bits kept or cleared under a mask
 mod condensed; // condensed.rt: bits gathered through a mask, and bits put to the ones of a mask
 
+pub use condensed::CondensedSize;
 pub use condensed::apply_condensed_mask_packing;
+pub use condensed::condensed_size;
 pub use condensed::count_mask_ones;
 pub use condensed::gather_bits;
 pub use plain::Kept;

@@ -3,6 +3,7 @@ ghost use mathlib.Core.Path.{_≡_};
 ghost use Prim.Native.Nat.{_*_, _≤_};
 ghost use lib.ListN.{length};
 ghost use Rattle.masks.specs.Plain.{maskBit, keeps, masked};
+use kinds::BitLength;
 
 // Which bits a mask keeps. The others it clears.
 pub enum Kept {
@@ -34,12 +35,12 @@ fn keeps_at(kept: Kept, mask: &[u8], i: usize) -> u8
 }
 
 // Keeps or clears bits of the data from a bit position on, by the bits of the mask from its lowest.
-pub fn apply_bit_mask(data: &mut [u8], mask: &[u8], kept: Kept, bit_len: usize, bit_pos: usize)
+pub fn apply_bit_mask(data: &mut [u8], mask: &[u8], kept: Kept, bit_len: BitLength, bit_pos: usize)
     requires { ⌜ length (now «data») ≤ 65535 ⌝ }
     requires { ⌜ «bit_pos» ≤ 8 * 65535 ⌝ }
-    ensures { λ _. ⌜ now («data» .exit) ≡ masked kept «bit_len» «bit_pos» (now (mask .entry)) (now («data» .entry)) ⌝ }
+    ensures { λ _. ⌜ now («data» .exit) ≡ masked kept («bit_len» .0) «bit_pos» (now (mask .entry)) (now («data» .entry)) ⌝ }
 {
-    for i in 0..bit_len {
+    for i in 0..bit_len.bits() {
         if bit_pos + i >= data.len() * 8 {
             break;
         }

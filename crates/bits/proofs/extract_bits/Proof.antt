@@ -1,6 +1,6 @@
 -- `bits::extract_bits` meets its contract. The loop's invariant: the result holds the first i bits. Assumes nothing.
 use Prim.Native.Nat.{ℕ, _-_, _≤_}
-use mathlib.Core.Path.{_≡_, _∙_, ap}
+use mathlib.Core.Path.{_≡_, _∙_, ap₂}
 use lib.ListN.{length}
 use native.Mathlib.Omega.{arith}
 use borrow.Author.Needs.{needs}
@@ -14,20 +14,25 @@ use Rattle.bits.proofs.extract_bits.Statement.{statement}
 use Rattle.bits.proofs.extract_bits.Tie as tie
 
 abbrev Inv-loop : tie.InvT-loop
-Inv-loop bit-len bit-pos «data» byte-order result-bytes₀ i₀ result-bytes i = (i ≤ bit-len) × (length result-bytes ≡ bytesFor bit-len) × (result-bytes ≡ packed (bytesFor bit-len) (first i (from bit-pos (bitAt (ordered byte-order «data»)))))
+Inv-loop bit-pos «data» byte-order result-bytes₀ i₀ i-end result-bytes i =
+    (i ≤ i-end) × (length result-bytes ≡ bytesFor i-end) × (result-bytes ≡ packed (bytesFor i-end) (first i (from bit-pos (bitAt (ordered byte-order «data»)))))
 
 abbrev μ-loop : tie.MeasureT-loop
-μ-loop bit-len bit-pos «data» byte-order result-bytes₀ i₀ result-bytes i = bit-len - i
+μ-loop bit-pos «data» byte-order result-bytes₀ i₀ i-end result-bytes i = i-end - i
 
 zero-requires : tie.Need-zero-requires Inv-loop μ-loop
 zero-requires c κs = search needs
 
+bits-requires : tie.Need-bits-requires Inv-loop μ-loop
+bits-requires c κs = search needs
+
 loop-holds : tie.Need-loop-holds Inv-loop μ-loop
-loop-holds c = let s = c .before .before .before .before .before .before in (
-  omega arith,
-  omega arith,
-  c .before .before .zero .ensures ∙ rw (s .pre .1 .1) (first-none (from (s .args .bit-pos) (bitAt (ordered (s .args .byte-order) (s .args .«data» .now)))) _),
-)
+loop-holds c = let s = c .before .before .before .before .before .before .before in
+    let same : length (s .args .result-bytes .now) ≡ bytesFor (c .bits .result) = omega arith in (
+      omega arith,
+      omega arith,
+      c .before .before .before .zero .ensures ∙ rw same (first-none (from (s .args .bit-pos) (bitAt (ordered (s .args .byte-order) (s .args .«data» .now)))) _),
+    )
 
 add-ordered-bit-at : tie.Need-add-ordered-bit-at Inv-loop μ-loop
 add-ordered-bit-at c = omega arith
@@ -46,12 +51,11 @@ loop-less c = omega arith
 
 loop-again : tie.Need-loop-again Inv-loop μ-loop
 loop-again c = let k = c .before .before .before .before .before .before in
-    let s = c .before .before .before .before .before .before .before .before .before .before .before .before .before in
-    let i = k .loop .i in (
+    let s = c .before .before .before .before .before .before .before .before .before .before .before .before .before .before in (
       omega arith,
       omega arith,
       c .before .before .set-bit-at .ensures ∙ rw (c .before .before .before .before .ordered-bit-at .ensures)
-          (first-step (from (s .args .bit-pos) (bitAt (ordered (s .args .byte-order) (s .args .«data» .now)))) (k .loop .result-bytes) (bytesFor (s .args .bit-len)) i (λ j. bitAt-lt _ _) (k .loop .inv .2)),
+          (first-step (from (s .args .bit-pos) (bitAt (ordered (s .args .byte-order) (s .args .«data» .now)))) (k .loop .result-bytes) (bytesFor (c .before .before .before .before .before .before .before .bits .result)) (k .loop .i) (λ j. bitAt-lt _ _) (k .loop .inv .2)),
     )
 
 same-length : tie.Need-same-length Inv-loop μ-loop
@@ -60,8 +64,9 @@ same-length c = omega arith
 returns : tie.Need-returns Inv-loop μ-loop
 unfolding extracted
 returns c = let k = c .before in
-    let s = c .before .before .before .before .before .before .before .before in
-    k .loop .inv .2 ∙ ap (λ (n : ℕ). packed (bytesFor (s .args .bit-len)) (first n (from (s .args .bit-pos) (bitAt (ordered (s .args .byte-order) (s .args .«data» .now)))))) (omega arith)
+    let s = c .before .before .before .before .before .before .before .before .before in
+    let all : k .loop .i ≡ s .args .bit-len .0 = omega arith in
+    k .loop .inv .2 ∙ ap₂ (λ (n i : ℕ). packed (bytesFor n) (first i (from (s .args .bit-pos) (bitAt (ordered (s .args .byte-order) (s .args .«data» .now)))))) (c .before .before .bits .ensures) all
 
 pub extract-bits-spec : {M : Type 1} → statement M
 extract-bits-spec =
@@ -70,6 +75,7 @@ extract-bits-spec =
     Inv-loop
     μ-loop
     zero-requires
+    bits-requires
     loop-holds
     add-ordered-bit-at
     ordered-bit-at-requires

@@ -1,5 +1,5 @@
 -- `bits::inject_bits` meets its contract. The loop's invariant: the first i bits are ORed in. Assumes nothing.
-use Prim.Native.Nat.{ℕ, _-_, _≤_}
+use Prim.Native.Nat.{ℕ, _-_, _*_, _≤_, min}
 use mathlib.Core.Path.{_≡_, _∙_, ap}
 use lib.ListN.{length}
 use native.Mathlib.Omega.{arith}
@@ -12,10 +12,13 @@ use Rattle.bits.proofs.inject_bits.Statement.{statement}
 use Rattle.bits.proofs.inject_bits.Tie as tie
 
 abbrev Inv-loop : tie.InvT-loop
-Inv-loop bit-len bit-pos dst-data₀ source-data count i₀ dst-data i = (i ≤ count) × (length dst-data ≡ length dst-data₀) × (dst-data ≡ injected i bit-pos (bitAt source-data) dst-data₀)
+Inv-loop bit-pos dst-data₀ source-data count i₀ dst-data i = (i ≤ count) × (length dst-data ≡ length dst-data₀) × (dst-data ≡ injected i bit-pos (bitAt source-data) dst-data₀)
 
 abbrev μ-loop : tie.MeasureT-loop
-μ-loop bit-len bit-pos dst-data₀ source-data count i₀ dst-data i = count - i
+μ-loop bit-pos dst-data₀ source-data count i₀ dst-data i = count - i
+
+bits-requires : tie.Need-bits-requires Inv-loop μ-loop
+bits-requires c κs = search needs
 
 mul-least : tie.Need-mul-least Inv-loop μ-loop
 mul-least c = omega arith
@@ -24,7 +27,7 @@ least-requires : tie.Need-least-requires Inv-loop μ-loop
 least-requires c κs = search needs
 
 loop-holds : tie.Need-loop-holds Inv-loop μ-loop
-loop-holds c = let s = c .before .before .before in (omega arith, omega arith, injected-none (s .args .bit-pos) (bitAt (s .args .source-data .now)) (s .args .dst-data .now) (λ j. c .before .before .slice-known .given j .fits))
+loop-holds c = let s = c .before .before .before .before in (omega arith, omega arith, injected-none (s .args .bit-pos) (bitAt (s .args .source-data .now)) (s .args .dst-data .now) (λ j. c .before .before .before .slice-known .given j .fits))
 
 bit-at-requires : tie.Need-bit-at-requires Inv-loop μ-loop
 bit-at-requires c κs = omega arith
@@ -43,12 +46,11 @@ loop-less c = omega arith
 
 loop-again : tie.Need-loop-again Inv-loop μ-loop
 loop-again c = let k = c .before .before .before .before .before .before in
-    let s = c .before .before .before .before .before .before .before .before .before .before in
-    let i = k .loop .i in (
+    let s = c .before .before .before .before .before .before .before .before .before .before .before in (
       omega arith,
       omega arith,
       c .before .before .set-bit-at .ensures ∙ rw (c .before .before .before .before .bit-at .ensures)
-          (injected-step (s .args .bit-pos) i (bitAt (s .args .source-data .now)) (s .args .dst-data .now) (k .loop .dst-data) (bitAt-lt _) (k .loop .inv .2)),
+          (injected-step (s .args .bit-pos) (k .loop .i) (bitAt (s .args .source-data .now)) (s .args .dst-data .now) (k .loop .dst-data) (bitAt-lt _) (k .loop .inv .2)),
     )
 
 same-length : tie.Need-same-length Inv-loop μ-loop
@@ -56,9 +58,10 @@ same-length c = omega arith
 
 returns : tie.Need-returns Inv-loop μ-loop
 returns c = let k = c .before in
-    let s = c .before .before .before .before .before in
-    k .loop .inv .2 ∙ ap (λ (n : ℕ). injected n (s .args .bit-pos) (bitAt (s .args .source-data .now)) (s .args .dst-data .now)) (omega arith)
-    ∙ injected-min (s .args .bit-len) (s .args .bit-pos) (s .args .source-data .now) (s .args .dst-data .now)
+    let s = c .before .before .before .before .before .before in
+    let all : k .loop .i ≡ min (s .args .bit-len .0) (length (s .args .source-data .now) * 8) = omega arith in
+    k .loop .inv .2 ∙ ap (λ (n : ℕ). injected n (s .args .bit-pos) (bitAt (s .args .source-data .now)) (s .args .dst-data .now)) all
+    ∙ injected-min (s .args .bit-len .0) (s .args .bit-pos) (s .args .source-data .now) (s .args .dst-data .now)
 
 pub inject-bits-spec : {M : Type 1} → statement M
 inject-bits-spec =
@@ -66,6 +69,7 @@ inject-bits-spec =
     (tie.spec
     Inv-loop
     μ-loop
+    bits-requires
     mul-least
     least-requires
     loop-holds

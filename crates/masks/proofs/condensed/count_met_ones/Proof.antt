@@ -1,7 +1,8 @@
 -- `count_met_ones` meets its contract. The loop's invariant: the ones below place i are counted. Assumes nothing.
 use Prim.Native.Nat.{ℕ, _+_, _-_, _≤_, _<_}
-use mathlib.Core.Path.{_≡_, _∙_, refl, sym, ap, ap₂}
+use mathlib.Core.Path.{_≡_, _∙_, refl, sym, ap₂}
 use native.Mathlib.Omega.{arith}
+use borrow.Author.Needs.{needs}
 use Rattle.kinds.specs.Types.{bytesFor}
 use Rattle.masks.specs.Condensed.{frontBit, onesBelow}
 use Rattle.masks.proofs.Ones.{onesBelow-next}
@@ -10,21 +11,27 @@ use Rattle.masks.proofs.condensed.count_met_ones.Statement.{statement}
 use Rattle.masks.proofs.condensed.count_met_ones.Tie as tie
 
 abbrev Inv-loop : tie.InvT-loop
-Inv-loop bit-mask bit-len field-bytes count₀ i₀ count i = (i ≤ bit-len) × (count ≤ i) × (count ≡ onesBelow (frontBit bit-mask (bytesFor bit-len)) i)
+Inv-loop bit-mask field-bytes count₀ i₀ i-end count i = (i ≤ i-end) × (field-bytes ≡ bytesFor i-end) × (count ≤ i) × (count ≡ onesBelow (frontBit bit-mask field-bytes) i)
 
 abbrev μ-loop : tie.MeasureT-loop
-μ-loop bit-mask bit-len field-bytes count₀ i₀ count i = bit-len - i
+μ-loop bit-mask field-bytes count₀ i₀ i-end count i = i-end - i
 
 -- a bit adds at most one
 one : (c : tie.After-front-bit-at Inv-loop μ-loop) → c .front-bit-at .result < 2
 one c = rw (c .front-bit-at .ensures) (bits-front _ _ _)
 
-add-field-bytes : tie.Need-add-field-bytes Inv-loop μ-loop
-add-field-bytes c = omega arith
+byte-count-requires : tie.Need-byte-count-requires Inv-loop μ-loop
+byte-count-requires c κs = search needs
+
+bytes-requires : tie.Need-bytes-requires Inv-loop μ-loop
+bytes-requires c κs = search needs
+
+bits-requires : tie.Need-bits-requires Inv-loop μ-loop
+bits-requires c κs = search needs
 
 loop-holds : tie.Need-loop-holds Inv-loop μ-loop
 unfolding onesBelow
-loop-holds c = (omega arith, omega arith, refl)
+loop-holds c = (omega arith, omega arith, omega arith, refl)
 
 front-bit-at-requires : tie.Need-front-bit-at-requires Inv-loop μ-loop
 front-bit-at-requires c κs = omega arith
@@ -42,14 +49,18 @@ loop-less : tie.Need-loop-less Inv-loop μ-loop
 loop-less c = omega arith
 
 loop-again : tie.Need-loop-again Inv-loop μ-loop
-loop-again c = (
+loop-again c = let s = c .before .before .before .before .before .before .before in (
+  omega arith,
   omega arith,
   omega (arith, one c),
-  ap₂ (λ (a b : ℕ). a + b) (c .before .before .loop .inv .2) (c .front-bit-at .ensures) ∙ sym (onesBelow-next (frontBit (c .before .before .before .before .args .bit-mask .now) (bytesFor (c .before .before .before .before .args .bit-len))) (c .before .before .loop .i)),
+  ap₂ (λ (a b : ℕ). a + b) (c .before .before .loop .inv .3) (c .front-bit-at .ensures) ∙ sym (onesBelow-next (frontBit (s .args .bit-mask .now) (c .before .before .before .before .bytes .result)) (c .before .before .loop .i)),
 )
 
 returns : tie.Need-returns Inv-loop μ-loop
-returns c = c .before .loop .inv .2 ∙ ap (onesBelow (frontBit (c .before .before .before .args .bit-mask .now) (bytesFor (c .before .before .before .args .bit-len)))) (omega arith)
+returns c = let s = c .before .before .before .before .before .before in
+    let all : c .before .loop .i ≡ s .args .bit-len .0 = omega arith in
+    let field : c .before .before .before .bytes .result ≡ bytesFor (s .args .bit-len .0) = omega arith in
+    c .before .loop .inv .3 ∙ ap₂ (λ (n i : ℕ). onesBelow (frontBit (s .args .bit-mask .now) n) i) field all
 
 pub count-met-ones-spec : {M : Type 1} → statement M
 count-met-ones-spec =
@@ -57,7 +68,9 @@ count-met-ones-spec =
     (tie.spec
     Inv-loop
     μ-loop
-    add-field-bytes
+    byte-count-requires
+    bytes-requires
+    bits-requires
     loop-holds
     front-bit-at-requires
     cast-count

@@ -1,6 +1,7 @@
 -- `masks::gather_bits` meets its contract. The loop's invariant: the result holds what is gathered of the first i bits. Assumes nothing.
 use Prim.Native.Nat.{ℕ, _-_, _≤_}
 use mathlib.Core.Path.{_≡_, _∙_, refl, sym, ap, ap₂}
+use mathlib.Core.List.{List}
 use lib.ListN.{length}
 use native.Mathlib.Omega.{arith}
 use borrow.Author.Needs.{needs}
@@ -9,29 +10,34 @@ use Rattle.order.specs.Order.{ordered}
 use Rattle.bits.specs.Bits.{bitAt, packed}
 use Rattle.bits.specs.Moves.{from}
 use Rattle.bits.proofs.Bytes.{bitAt-lt, packed-zero}
-use Rattle.masks.specs.Condensed.{frontBit, gathered, bitsOf}
+use Rattle.masks.specs.Condensed.{frontBit, gathered, picked, bitsOf}
 use Rattle.masks.proofs.Gather.{Gathering, gathering-more}
 use Rattle.masks.proofs.condensed.gather_bits.Statement.{statement}
 use Rattle.masks.proofs.condensed.gather_bits.Tie as tie
 
 abbrev Inv-loop : tie.InvT-loop
-Inv-loop bit-mask «data» byte-order bit-pos bit-len result-bytes₀ field-bytes count₀ i₀ result-bytes count i =
-    (i ≤ bit-len) × Gathering (frontBit bit-mask (bytesFor bit-len)) (from bit-pos (bitAt (ordered byte-order «data»))) (length result-bytes₀) i count result-bytes
+Inv-loop bit-mask «data» byte-order bit-pos result-bytes₀ field-bytes count₀ i₀ i-end result-bytes count i =
+    (i ≤ i-end) × (field-bytes ≡ bytesFor i-end) × Gathering (frontBit bit-mask field-bytes) (from bit-pos (bitAt (ordered byte-order «data»))) (length result-bytes₀) i count result-bytes
 
 abbrev μ-loop : tie.MeasureT-loop
-μ-loop bit-mask «data» byte-order bit-pos bit-len result-bytes₀ field-bytes count₀ i₀ result-bytes count i = bit-len - i
+μ-loop bit-mask «data» byte-order bit-pos result-bytes₀ field-bytes count₀ i₀ i-end result-bytes count i = i-end - i
 
 zero-requires : tie.Need-zero-requires Inv-loop μ-loop
 zero-requires c κs = search needs
 
-add-field-bytes : tie.Need-add-field-bytes Inv-loop μ-loop
-add-field-bytes c = omega arith
+byte-count-requires : tie.Need-byte-count-requires Inv-loop μ-loop
+byte-count-requires c κs = search needs
+
+bytes-requires : tie.Need-bytes-requires Inv-loop μ-loop
+bytes-requires c κs = search needs
+
+bits-requires : tie.Need-bits-requires Inv-loop μ-loop
+bits-requires c κs = search needs
 
 loop-holds : tie.Need-loop-holds Inv-loop μ-loop
 unfolding gathered
-loop-holds c = let s = c .before .before .before .before .before .before .before in
-    let z = c .before .before .zero in
-    (omega arith, record { len = refl; few = omega arith; many = refl; bits = z .ensures ∙ sym (packed-zero _) ∙ ap (λ (n : ℕ). packed n (λ k. 0)) (sym (z .kept .0)) })
+loop-holds c = let z = c .before .before .before .before .before .zero in
+    (omega arith, omega arith, record { len = refl; few = omega arith; many = refl; bits = z .ensures ∙ sym (packed-zero _) ∙ ap (λ (n : ℕ). packed n (λ k. 0)) (sym (z .kept .0)) })
 
 front-bit-at-requires : tie.Need-front-bit-at-requires Inv-loop μ-loop
 front-bit-at-requires c κs = omega arith
@@ -53,11 +59,12 @@ loop-less c = omega arith
 
 loop-again : tie.Need-loop-again Inv-loop μ-loop
 loop-again c = let k = c .before .before .before .before .before .before .before in
-    let s = c .before .before .before .before .before .before .before .before .before .before .before .before .before .before .before in
+    let s = c .before .before .before .before .before .before .before .before .before .before .before .before .before .before .before .before .before .before in
     let g = c .before .before .gather-bit in (
       omega arith,
-      gathering-more (frontBit (s .args .bit-mask .now) (bytesFor (s .args .bit-len))) (from (s .args .bit-pos) (bitAt (ordered (s .args .byte-order) (s .args .«data» .now)))) (λ j. bitAt-lt _ _) _ (k .loop .i) (k .loop .count) (c .before .before .before .before .before .front-bit-at .result) (c .before .before .before .before .ordered-bit-at .result) (g .result) (k .loop .result-bytes) _
-          (c .before .before .before .before .before .front-bit-at .ensures) (c .before .before .before .before .ordered-bit-at .ensures) (g .ensures .0) (g .ensures .1) (omega arith) (k .loop .inv .1),
+      omega arith,
+      gathering-more (frontBit (s .args .bit-mask .now) (c .before .before .before .before .before .before .before .before .before .bytes .result)) (from (s .args .bit-pos) (bitAt (ordered (s .args .byte-order) (s .args .«data» .now)))) (λ j. bitAt-lt _ _) _ (k .loop .i) (k .loop .count) (c .before .before .before .before .before .front-bit-at .result) (c .before .before .before .before .ordered-bit-at .result) (g .result) (k .loop .result-bytes) _
+          (c .before .before .before .before .before .front-bit-at .ensures) (c .before .before .before .before .ordered-bit-at .ensures) (g .ensures .0) (g .ensures .1) (omega arith) (k .loop .inv .2),
     )
 
 same-length : tie.Need-same-length Inv-loop μ-loop
@@ -65,11 +72,14 @@ same-length c = omega arith
 
 returns : tie.Need-returns Inv-loop μ-loop
 returns c = let k = c .before in
-    let s = c .before .before .before .before .before .before .before .before .before in
-    let z = c .before .before .before .before .zero in
-    let all : k .loop .i ≡ s .args .bit-len = omega arith in
-    let g = k .loop .inv .1 in
-    (g .many ∙ ap (λ (n : ℕ). length (gathered (frontBit (s .args .bit-mask .now) (bytesFor (s .args .bit-len))) (from (s .args .bit-pos) (bitAt (ordered (s .args .byte-order) (s .args .«data» .now)))) n)) all, g .bits ∙ ap₂ (λ (n i : ℕ). packed n (bitsOf (gathered (frontBit (s .args .bit-mask .now) (bytesFor (s .args .bit-len))) (from (s .args .bit-pos) (bitAt (ordered (s .args .byte-order) (s .args .«data» .now)))) i))) (z .kept .0) all)
+    let s = c .before .before .before .before .before .before .before .before .before .before .before .before in
+    let z = c .before .before .before .before .before .before .before .zero in
+    let all : k .loop .i ≡ s .args .bit-len .0 = omega arith in
+    let field : c .before .before .before .bytes .result ≡ bytesFor (s .args .bit-len .0) = omega arith in
+    let g = k .loop .inv .2 in
+    let is : gathered (frontBit (s .args .bit-mask .now) (c .before .before .before .bytes .result)) (from (s .args .bit-pos) (bitAt (ordered (s .args .byte-order) (s .args .«data» .now)))) (k .loop .i) ≡ picked (s .args .bit-mask .now) (s .args .bit-len .0) (from (s .args .bit-pos) (bitAt (ordered (s .args .byte-order) (s .args .«data» .now)))) =
+    ap₂ (λ (n i : ℕ). gathered (frontBit (s .args .bit-mask .now) n) (from (s .args .bit-pos) (bitAt (ordered (s .args .byte-order) (s .args .«data» .now)))) i) field all in
+    (g .many ∙ ap length is, g .bits ∙ ap₂ (λ (n : ℕ) (l : List ℕ). packed n (bitsOf l)) (z .kept .0) is)
 
 pub gather-bits-spec : {M : Type 1} → statement M
 gather-bits-spec =
@@ -78,7 +88,9 @@ gather-bits-spec =
     Inv-loop
     μ-loop
     zero-requires
-    add-field-bytes
+    byte-count-requires
+    bytes-requires
+    bits-requires
     loop-holds
     front-bit-at-requires
     add-ordered-bit-at
