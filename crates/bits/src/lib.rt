@@ -1,6 +1,6 @@
 // Bits of bytes: one bit read or set, a run of bits taken out of bytes, and a run of bits ORed into bytes.
 ghost use mathlib.Core.Path.{_≡_};
-ghost use Prim.Native.Nat.{_+_, _*_, _<_, _≤_, min};
+ghost use Prim.Native.Nat.{_+_, _*_, _<_, _≤_};
 ghost use lib.ListN.{length, replicate};
 ghost use lib.Dec.{ltb};
 ghost use Rattle.kinds.specs.Types.{bytesFor};
@@ -93,13 +93,6 @@ pub fn extract_bits(
     }
 }
 
-// The smaller of two numbers.
-pub fn least(a: usize, b: usize) -> usize
-    ensures { λ r. ⌜ r ≡ min a b ⌝ }
-{
-    if a < b { a } else { b }
-}
-
 // ORs bits of the source into the destination from a bit position on. Past its end the source has zeros.
 pub fn inject_bits(bit_len: BitLength, bit_pos: usize, dst_data: &mut [u8], source_data: &[u8])
     requires { ⌜ length (now «source_data») ≤ 65535 ⌝ }
@@ -107,8 +100,8 @@ pub fn inject_bits(bit_len: BitLength, bit_pos: usize, dst_data: &mut [u8], sour
     requires { ⌜ «bit_pos» + «bit_len» .0 ≤ 8 * length (now «dst_data») ⌝ }
     ensures { λ _. ⌜ now («dst_data» .exit) ≡ injected («bit_len» .0) «bit_pos» (bitAt (now («source_data» .entry))) (now («dst_data» .entry)) ⌝ }
 {
-    let count = least(bit_len.bits(), source_data.len() * 8);
-    for i in 0..count {
+    let count = bit_len.at_most(source_data.len() * 8);
+    for i in 0..count.bits() {
         let bit_value = bit_at(source_data, i);
         set_bit_at(dst_data, bit_pos + i, bit_value, false);
     }

@@ -17,10 +17,6 @@ abbrev pub firstOf : List Rule → ℕ
 firstOf [] = 0
 firstOf (r ∷ rs) = cond (r .test) (r .number) (firstOf rs)
 
--- the first number, or the second where that is 0
-abbrev pub orElse : ℕ → ℕ → ℕ
-orElse a b = cond (eqb a 0) b a
-
 -- what is made, or the number with which the making is refused
 pub data Outcome (A : Type 0) : Type 0 where
   gives : A → Outcome A

@@ -1,7 +1,7 @@
 -- Bits under a plain mask: what the code reads of it, and the bit that a loop comes to. Assumes nothing.
 use mathlib.Core.Path.{_≡_, ap, _∙_}
 use mathlib.Core.List.{List}
-use Prim.Native.Nat.{ℕ, _+_, _-_, _*_, _/_, _%_, _^_, _<_, min}
+use Prim.Native.Nat.{ℕ, _+_, _-_, _*_, _/_, _%_, _^_, _<_}
 use native.Mathlib.Omega.{arith}
 use lib.ListN.{length, getD, List·getD-eq-default}
 use lib.Bits.{bitAnd, and-mask}
@@ -12,7 +12,7 @@ use Rattle.bits.proofs.Bytes.{bitAt-lt}
 use Rattle.bits.proofs.Moves.{within-out, bitAt-overlaid}
 use Rattle.masks.specs.declared.plain.Kept.{Kept}
 use Rattle.masks.specs.declared.plain.Kept.the-variants.{UnderOnes, UnderZeros}
-use Rattle.masks.specs.Plain.{maskBit, keeps}
+use Rattle.masks.specs.Plain.{maskBit, keeps, keptBit}
 
 pub maskBit-code : (mask : List ℕ) (i j : ℕ) → j ≡ length mask - 1 - i / 8 → bitAnd (getD mask j 0 / 2 ^ (i % 8)) 1 ≡ maskBit mask i
 unfolding maskBit bit
@@ -31,10 +31,6 @@ maskBit-lt mask i = bit-lt (getD mask (length mask - 1 - i / 8) 0) (i % 8)
 pub keeps-lt : (kept : Kept) (mask : List ℕ) (i : ℕ) → keeps kept (maskBit mask i) < 2
 keeps-lt UnderOnes mask i = maskBit-lt mask i
 keeps-lt UnderZeros mask i = omega arith
-
--- the bit that is left at place k
-abbrev pub keptBit : Kept → ℕ → List ℕ → List ℕ → ℕ → ℕ
-keptBit kept pos mask xs k = min (bitAt xs k) (keeps kept (maskBit mask (k - pos)))
 
 pub bits-keptBit : (kept : Kept) (pos : ℕ) (mask xs : List ℕ) → Bits (keptBit kept pos mask xs)
 bits-keptBit kept pos mask xs k = omega (arith, bitAt-lt xs k)

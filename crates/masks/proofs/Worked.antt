@@ -62,6 +62,8 @@ examples =
     ∷ (injected 16 0 (replaced (0xFF ∷ 0xFF ∷ []) (0x12 ∷ [])) (0x00 ∷ 0x00 ∷ []) is (0xFF ∷ 0x12 ∷ []))
     -- 16 bits are gathered and 24 counted: of three bytes two are dropped, with gathered bits in them
     ∷ (condensed (0x00 ∷ 0xFF ∷ 0xFF ∷ 0xFF ∷ 0xFF ∷ []) 24 (bitAt (0x11 ∷ 0x22 ∷ 0x33 ∷ [])) is (0x33 ∷ []))
+    -- an empty mask has no ones, so there are no bits and no bytes
+    ∷ (condensed [] 8 (bitAt (0xFF ∷ [])) is [])
     ∷ []
 
 all-hold : hold examples ≡ true

@@ -46,6 +46,7 @@ abbrev pub dropBelow : ℕ → ℕ → List ℕ → List ℕ
 dropBelow r e xs = cond (ltb e r) (drop e xs) xs
 
 -- what a condensed reading gives: r bytes for t bits hold the gathered bits right-aligned, less e bytes for the bits gathered
+-- (for no bits no bytes: r is then 0)
 unfoldable pub condensed : List ℕ → ℕ → (ℕ → ℕ) → List ℕ
 condensed mask len field =
     dropBelow (bytesFor (condensedCount mask len)) (bytesFor (length (picked mask len field)))

@@ -1,2 +1,3 @@
+-- `Plain` has masks in plain use, and `Condensed` those that gather and put apart.
 pub mod Plain
 pub mod Condensed

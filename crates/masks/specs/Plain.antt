@@ -16,6 +16,10 @@ abbrev pub keeps : Kept → ℕ → ℕ
 keeps UnderOnes m = m
 keeps UnderZeros m = 1 - m
 
+-- what is left of bit k of the bytes xs under a mask that begins at pos
+abbrev pub keptBit : Kept → ℕ → List ℕ → List ℕ → ℕ → ℕ
+keptBit kept pos mask xs k = min (bitAt xs k) (keeps kept (maskBit mask (k - pos)))
+
 -- the bytes xs after bit pos+i is kept or cleared by mask bit i, for i below len and up to the end of the bytes
 abbrev pub masked : Kept → ℕ → ℕ → List ℕ → List ℕ → List ℕ
-masked kept len pos mask xs = overlaid (within len pos) (λ k. min (bitAt xs k) (keeps kept (maskBit mask (k - pos)))) xs
+masked kept len pos mask xs = overlaid (within len pos) (keptBit kept pos mask xs) xs

@@ -12,19 +12,19 @@ use Rattle.bits.proofs.inject_bits.Statement.{statement}
 use Rattle.bits.proofs.inject_bits.Tie as tie
 
 abbrev Inv-loop : tie.InvT-loop
-Inv-loop bit-pos dst-data₀ source-data count i₀ dst-data i = (i ≤ count) × (length dst-data ≡ length dst-data₀) × (dst-data ≡ injected i bit-pos (bitAt source-data) dst-data₀)
+Inv-loop bit-pos dst-data₀ source-data i₀ i-end dst-data i = (i ≤ i-end) × (length dst-data ≡ length dst-data₀) × (dst-data ≡ injected i bit-pos (bitAt source-data) dst-data₀)
 
 abbrev μ-loop : tie.MeasureT-loop
-μ-loop bit-pos dst-data₀ source-data count i₀ dst-data i = count - i
+μ-loop bit-pos dst-data₀ source-data i₀ i-end dst-data i = i-end - i
+
+mul-at-most : tie.Need-mul-at-most Inv-loop μ-loop
+mul-at-most c = omega arith
+
+at-most-requires : tie.Need-at-most-requires Inv-loop μ-loop
+at-most-requires c κs = search needs
 
 bits-requires : tie.Need-bits-requires Inv-loop μ-loop
 bits-requires c κs = search needs
-
-mul-least : tie.Need-mul-least Inv-loop μ-loop
-mul-least c = omega arith
-
-least-requires : tie.Need-least-requires Inv-loop μ-loop
-least-requires c κs = search needs
 
 loop-holds : tie.Need-loop-holds Inv-loop μ-loop
 loop-holds c = let s = c .before .before .before .before in (omega arith, omega arith, injected-none (s .args .bit-pos) (bitAt (s .args .source-data .now)) (s .args .dst-data .now) (λ j. c .before .before .before .slice-known .given j .fits))
@@ -69,9 +69,9 @@ inject-bits-spec =
     (tie.spec
     Inv-loop
     μ-loop
+    mul-at-most
+    at-most-requires
     bits-requires
-    mul-least
-    least-requires
     loop-holds
     bit-at-requires
     add-set-bit-at

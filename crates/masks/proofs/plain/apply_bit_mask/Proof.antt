@@ -6,7 +6,8 @@ use native.Mathlib.Omega.{arith}
 use borrow.Author.Needs.{needs}
 use Rattle.bits.specs.Moves.{within, overlaid}
 use Rattle.bits.proofs.Steps.{overlaid-none, overlaid-step, overlaid-past}
-use Rattle.masks.proofs.Masked.{keptBit, bits-keptBit, keptBit-here}
+use Rattle.masks.specs.Plain.{keptBit}
+use Rattle.masks.proofs.Masked.{bits-keptBit, keptBit-here}
 use Rattle.masks.proofs.plain.apply_bit_mask.Statement.{statement}
 use Rattle.masks.proofs.plain.apply_bit_mask.Tie as tie
 
