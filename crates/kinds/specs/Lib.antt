@@ -1,7 +1,5 @@
--- The types, the table of refusals and its order, and what is made of a description, in document 01's words.
+-- The types, the table of refusals, rules in an order and what is made or refused, and the checks 20 to 25, in document 01's words.
 pub mod Types
 pub mod Answers
 pub mod Rules
 pub mod Refusals
-pub mod Making
-pub mod Getters

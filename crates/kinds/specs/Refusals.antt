@@ -1,59 +1,12 @@
--- Document 01, rows 10 to 13 and 20 to 25 of the refusals, in the order of its paragraph 'Order'. Assumes nothing.
+-- Document 01, rows 20 to 25 of the refusals, in the order of its paragraph 'Order'. Assumes nothing.
 use Prim.Native.Nat.{ℕ, _%_}
-use mathlib.Core.Bool.{Bool, true, false, not, _&&_}
+use mathlib.Core.Bool.{not, _&&_}
 use mathlib.Core.List.{[], _∷_}
 use lib.Dec.{eqb, ltb}
 use Rattle.kinds.specs.declared.types.DataType.{DataType}
 use Rattle.kinds.specs.declared.types.DataType.the-variants.{Int32, UInt32, Float32, Float64}
-use Rattle.kinds.specs.declared.variants.MaxLength.{MaxLength}
-use Rattle.kinds.specs.declared.variants.MaxLength.the-variants.{Most, Unlimited}
-use Rattle.kinds.specs.declared.variants.MinMaxLengthType.{MinMaxLengthType}
-use Rattle.kinds.specs.declared.variants.DiagCodedTypeVariant.{DiagCodedTypeVariant}
-use Rattle.kinds.specs.declared.variants.DiagCodedTypeVariant.the-variants.{LeadingLengthInfo, MinMaxLength, StandardLength, ParamLengthInfo}
-use Rattle.kinds.specs.Types.{among, isByteType, isNumeric, isUnicode}
+use Rattle.kinds.specs.Types.{among, isByteType, isUnicode}
 use Rattle.kinds.specs.Rules.{rule, firstOf}
-
--- there is a maximum, and the test holds of it
-abbrev pub someMax : (ℕ → Bool) → MaxLength → Bool
-someMax test (Most n) = test n
-someMax test Unlimited = false
-
-abbrev pub even : ℕ → Bool
-even n = eqb (n % 2) 0
-
--- 12, 13: max is 0; max below min
-abbrev pub minMaxRefusal : ℕ → MaxLength → ℕ
-minMaxRefusal min max =
-    firstOf
-    (rule (someMax (λ n. eqb n 0) max) 12
-    ∷ rule (someMax (λ n. ltb n min) max) 13
-    ∷ [])
-
--- LeadingLengthInfo or MinMaxLength
-abbrev pub findsItsLength : DiagCodedTypeVariant → Bool
-findsItsLength (LeadingLengthInfo bits) = true
-findsItsLength (MinMaxLength m) = true
-findsItsLength (StandardLength s) = false
-findsItsLength (ParamLengthInfo name) = false
-
--- min and max are even, and there is a max
-abbrev pub evenLimits : MinMaxLengthType → Bool
-evenLimits m = even (m .«min_length») && someMax even (m .«max_length»)
-
--- MinMaxLength with min odd, max odd or max missing
-abbrev pub oddLimits : DiagCodedTypeVariant → Bool
-oddLimits (MinMaxLength m) = not (evenLimits m)
-oddLimits (LeadingLengthInfo bits) = false
-oddLimits (StandardLength s) = false
-oddLimits (ParamLengthInfo name) = false
-
--- 10, 11
-abbrev pub codedTypeRefusal : DataType → DiagCodedTypeVariant → ℕ
-codedTypeRefusal t v =
-    firstOf
-    (rule (findsItsLength v && isNumeric t) 10
-    ∷ rule (oddLimits v && isUnicode t) 11
-    ∷ [])
 
 -- 20: byte type, bit position not 0
 abbrev pub bitPositionRefusal : DataType → ℕ → ℕ

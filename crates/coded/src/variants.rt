@@ -1,8 +1,8 @@
 // The four variants of a coded type, and what each holds.
 ghost use mathlib.Core.Path.{_≡_};
-ghost use Rattle.kinds.specs.Making.{newMinMax, outcomeOfMinMax};
-use super::refusals::Refusal;
-use super::types::BitLength;
+ghost use Rattle.coded.specs.Making.{newMinMax, outcomeOfMinMax};
+use kinds::BitLength;
+use kinds::Refusal;
 
 // A part of the store of masks and key names.
 pub struct Place {

@@ -1,7 +1,7 @@
 -- `DiagCodedType::length_key_place` meets its contract. Assumes nothing.
 use borrow.Author.Needs.{needs}
-use Rattle.kinds.proofs.coded.DiagCodedType.length_key_place.Statement.{statement}
-use Rattle.kinds.proofs.coded.DiagCodedType.length_key_place.Tie as tie
+use Rattle.coded.proofs.coded_type.DiagCodedType.length_key_place.Statement.{statement}
+use Rattle.coded.proofs.coded_type.DiagCodedType.length_key_place.Tie as tie
 
 enum-told : tie.Need-enum-told
 enum-told c = search needs

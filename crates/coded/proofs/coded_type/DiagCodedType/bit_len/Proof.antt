@@ -1,7 +1,7 @@
 -- `DiagCodedType::bit_len` meets its contract. Assumes nothing.
 use borrow.Author.Needs.{needs}
-use Rattle.kinds.proofs.coded.DiagCodedType.bit_len.Statement.{statement}
-use Rattle.kinds.proofs.coded.DiagCodedType.bit_len.Tie as tie
+use Rattle.coded.proofs.coded_type.DiagCodedType.bit_len.Statement.{statement}
+use Rattle.coded.proofs.coded_type.DiagCodedType.bit_len.Tie as tie
 
 enum-known-type- : tie.Need-enum-known-type-
 enum-known-type- c = search needs

@@ -2,17 +2,17 @@
 use mathlib.Core.Bool.{Bool, true, false, not, _&&_}
 use mathlib.Core.List.{[], _∷_}
 use Prim.Native.Nat.{ℕ}
 use Rattle.kinds.specs.declared.types.DataType.{DataType}
-use Rattle.kinds.specs.declared.variants.MinMaxLengthType.{MinMaxLengthType}
-use Rattle.kinds.specs.declared.variants.DiagCodedTypeVariant.the-variants.{MinMaxLength}
+use Rattle.coded.specs.declared.variants.MinMaxLengthType.{MinMaxLengthType}
+use Rattle.coded.specs.declared.variants.DiagCodedTypeVariant.the-variants.{MinMaxLength}
 use Rattle.kinds.specs.Types.{isByteType, isUnicode}
 use Rattle.kinds.specs.Rules.{rule, firstOf}
-use Rattle.kinds.specs.Refusals.{evenLimits, codedTypeRefusal}
+use Rattle.coded.specs.Refusals.{evenLimits, codedTypeRefusal}
 use mathlib.Core.Path.{_≡_, ap, sym, _∙_}
 use borrow.Author.Tests.{not-true, not-false}
 use borrow.Author.Needs.{needs}
-use Rattle.kinds.proofs.coded.validate_min_max.Statement.{statement}
-use Rattle.kinds.proofs.coded.validate_min_max.Tie as tie
+use Rattle.coded.proofs.coded_type.validate_min_max.Statement.{statement}
+use Rattle.coded.proofs.coded_type.validate_min_max.Tie as tie
 
 -- the two rules by the three answers that decide them
 refusal : Bool → Bool → Bool → ℕ

@@ -1,8 +1,8 @@
 -- `validate` meets its contract. Assumes nothing.
 use mathlib.Core.Path.{sym, _∙_}
 use borrow.Author.Needs.{needs}
-use Rattle.kinds.proofs.coded.validate.Statement.{statement}
-use Rattle.kinds.proofs.coded.validate.Tie as tie
+use Rattle.coded.proofs.coded_type.validate.Statement.{statement}
+use Rattle.coded.proofs.coded_type.validate.Tie as tie
 
 enum-told : tie.Need-enum-told
 enum-told c = search needs

@@ -1,10 +1,10 @@
 -- What the small getters of a coded type give. Assumes nothing.
-use Rattle.kinds.specs.declared.variants.OptionalPlace.{OptionalPlace}
-use Rattle.kinds.specs.declared.variants.OptionalPlace.the-variants.{At, Absent}
-use Rattle.kinds.specs.declared.variants.OptionalBitLength.{OptionalBitLength}
-use Rattle.kinds.specs.declared.variants.OptionalBitLength.the-variants.{Bits, Variable}
-use Rattle.kinds.specs.declared.variants.DiagCodedTypeVariant.{DiagCodedTypeVariant}
-use Rattle.kinds.specs.declared.variants.DiagCodedTypeVariant.the-variants.{LeadingLengthInfo, MinMaxLength, StandardLength, ParamLengthInfo}
+use Rattle.coded.specs.declared.variants.OptionalPlace.{OptionalPlace}
+use Rattle.coded.specs.declared.variants.OptionalPlace.the-variants.{At, Absent}
+use Rattle.coded.specs.declared.variants.OptionalBitLength.{OptionalBitLength}
+use Rattle.coded.specs.declared.variants.OptionalBitLength.the-variants.{Bits, Variable}
+use Rattle.coded.specs.declared.variants.DiagCodedTypeVariant.{DiagCodedTypeVariant}
+use Rattle.coded.specs.declared.variants.DiagCodedTypeVariant.the-variants.{LeadingLengthInfo, MinMaxLength, StandardLength, ParamLengthInfo}
 
 -- the length that a description gives: of the length field, or of the field itself
 abbrev pub bitLenOf : DiagCodedTypeVariant → OptionalBitLength

@@ -1,19 +1,19 @@
 -- Document 01, 'Domain': a coded type built through `MinMaxLengthType::new` and then `new`. Assumes nothing.
 use Prim.Native.Nat.{ℕ}
 use mathlib.Core.Bool.{Bool}
 use Rattle.kinds.specs.declared.types.DataType.{DataType}
-use Rattle.kinds.specs.declared.variants.MaxLength.{MaxLength}
-use Rattle.kinds.specs.declared.variants.Termination.{Termination}
-use Rattle.kinds.specs.declared.variants.MinMaxLengthType.{MinMaxLengthType}
-use Rattle.kinds.specs.declared.variants.MinMaxBuilt.{MinMaxBuilt}
-use Rattle.kinds.specs.declared.variants.MinMaxBuilt.the-variants as minMax
-use Rattle.kinds.specs.declared.variants.DiagCodedTypeVariant.{DiagCodedTypeVariant}
-use Rattle.kinds.specs.declared.coded.DiagCodedType.{DiagCodedType}
-use Rattle.kinds.specs.declared.coded.Built.{Built}
-use Rattle.kinds.specs.declared.coded.Built.the-variants as built
+use Rattle.coded.specs.declared.variants.MaxLength.{MaxLength}
+use Rattle.coded.specs.declared.variants.Termination.{Termination}
+use Rattle.coded.specs.declared.variants.MinMaxLengthType.{MinMaxLengthType}
+use Rattle.coded.specs.declared.variants.MinMaxBuilt.{MinMaxBuilt}
+use Rattle.coded.specs.declared.variants.MinMaxBuilt.the-variants as minMax
+use Rattle.coded.specs.declared.variants.DiagCodedTypeVariant.{DiagCodedTypeVariant}
+use Rattle.coded.specs.declared.coded_type.DiagCodedType.{DiagCodedType}
+use Rattle.coded.specs.declared.coded_type.Built.{Built}
+use Rattle.coded.specs.declared.coded_type.Built.the-variants as built
 use Rattle.kinds.specs.Answers.{numberOf}
-use Rattle.kinds.specs.Refusals.{minMaxRefusal, codedTypeRefusal}
+use Rattle.coded.specs.Refusals.{minMaxRefusal, codedTypeRefusal}
 use Rattle.kinds.specs.Rules.{Outcome, gives, refuses, unless}
 
 abbrev pub newMinMax : ℕ → MaxLength → Termination → Outcome MinMaxLengthType
 newMinMax min max t = unless (minMaxRefusal min max) (record { «min_length» = min; «max_length» = max; termination = t })

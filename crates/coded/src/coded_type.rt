@@ -1,18 +1,18 @@
 // The coded type: how it is made, and its small getters.
 ghost use mathlib.Core.Path.{_≡_};
 ghost use mathlib.Core.Bool.{true};
 ghost use Rattle.kinds.specs.Answers.{numberOfCheck};
-ghost use Rattle.kinds.specs.Refusals.{evenLimits, codedTypeRefusal};
-ghost use Rattle.kinds.specs.Making.{newCodedType, outcomeOfCodedType};
-ghost use Rattle.kinds.specs.Getters.{bitLenOf, keyNameOf};
-use super::refusals::Check;
-use super::refusals::Refusal;
-use super::types::DataType;
+ghost use Rattle.coded.specs.Refusals.{evenLimits, codedTypeRefusal};
+ghost use Rattle.coded.specs.Making.{newCodedType, outcomeOfCodedType};
+ghost use Rattle.coded.specs.Getters.{bitLenOf, keyNameOf};
 use super::variants::DiagCodedTypeVariant;
 use super::variants::MaxLength;
 use super::variants::MinMaxLengthType;
 use super::variants::OptionalBitLength;
 use super::variants::OptionalPlace;
+use kinds::Check;
+use kinds::DataType;
+use kinds::Refusal;
 
 pub struct DiagCodedType {
     pub base_datatype: DataType,

@@ -1,9 +1,9 @@
 -- `DiagCodedType::new` meets its contract. Assumes nothing.
 use mathlib.Core.Path.{sym}
 use Rattle.kinds.proofs.Refused.{none-made}
 use borrow.Author.Needs.{needs}
-use Rattle.kinds.proofs.coded.DiagCodedType.new.Statement.{statement}
-use Rattle.kinds.proofs.coded.DiagCodedType.new.Tie as tie
+use Rattle.coded.proofs.coded_type.DiagCodedType.new.Statement.{statement}
+use Rattle.coded.proofs.coded_type.DiagCodedType.new.Tie as tie
 
 validate-requires : tie.Need-validate-requires
 validate-requires c κs = search needs

@@ -1,8 +1,8 @@
 -- `even_limits` meets its contract. Assumes nothing.
 use borrow.Author.Tests.{eq-eqb, ne-eqb}
 use borrow.Author.Needs.{needs}
-use Rattle.kinds.proofs.coded.even_limits.Statement.{statement}
-use Rattle.kinds.proofs.coded.even_limits.Tie as tie
+use Rattle.coded.proofs.coded_type.even_limits.Statement.{statement}
+use Rattle.coded.proofs.coded_type.even_limits.Tie as tie
 
 enum-known-max-length : tie.Need-enum-known-max-length
 enum-known-max-length c = search needs

@@ -1,8 +1,8 @@
 -- `MinMaxLengthType::new` meets its contract. Assumes nothing.
 use borrow.Author.Tests.{ne-eqb, lt-ltb, le-ltb}
 use borrow.Author.Needs.{needs}
-use Rattle.kinds.proofs.variants.MinMaxLengthType.new.Statement.{statement}
-use Rattle.kinds.proofs.variants.MinMaxLengthType.new.Tie as tie
+use Rattle.coded.proofs.variants.MinMaxLengthType.new.Statement.{statement}
+use Rattle.coded.proofs.variants.MinMaxLengthType.new.Tie as tie
 
 enum-known-max-length : tie.Need-enum-known-max-length
 enum-known-max-length c = search needs
