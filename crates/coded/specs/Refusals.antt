@@ -9,8 +9,9 @@ use Rattle.coded.specs.declared.variants.MaxLength.the-variants.{Most, U
 use Rattle.coded.specs.declared.variants.MinMaxLengthType.{MinMaxLengthType}
 use Rattle.coded.specs.declared.variants.DiagCodedTypeVariant.{DiagCodedTypeVariant}
 use Rattle.coded.specs.declared.variants.DiagCodedTypeVariant.the-variants.{LeadingLengthInfo, MinMaxLength, StandardLength, ParamLengthInfo}
+use Rattle.coded.specs.declared.coded_type.DiagCodedType.{DiagCodedType}
 use Rattle.kinds.specs.Types.{isNumeric, isUnicode}
-use Rattle.kinds.specs.Rules.{rule, firstOf}
+use Rattle.kinds.specs.Rules.{rule, firstOf, orElse}
 
 -- there is a maximum, and the test holds of it
 abbrev pub someMax : (ℕ → Bool) → MaxLength → Bool
@@ -53,3 +54,14 @@ codedTypeRefusal t v =
     (rule (findsItsLength v && isNumeric t) 10
     ∷ rule (oddLimits v && isUnicode t) 11
     ∷ [])
+
+-- 12, 13 of a variant that has limits
+abbrev pub limitsRefusal : DiagCodedTypeVariant → ℕ
+limitsRefusal (MinMaxLength m) = minMaxRefusal (m .«min_length») (m .«max_length»)
+limitsRefusal (LeadingLengthInfo bits) = 0
+limitsRefusal (StandardLength s) = 0
+limitsRefusal (ParamLengthInfo name) = 0
+
+-- 12, 13, 10, 11 of a coded type, however it was made
+abbrev pub madeRefusal : DiagCodedType → ℕ
+madeRefusal t = orElse (limitsRefusal (t .«type_»)) (codedTypeRefusal (t .«base_datatype») (t .«type_»))

@@ -2,7 +2,7 @@
 ghost use mathlib.Core.Path.{_≡_};
 ghost use mathlib.Core.Bool.{true};
 ghost use Rattle.kinds.specs.Answers.{numberOfCheck};
-ghost use Rattle.coded.specs.Refusals.{evenLimits, codedTypeRefusal};
+ghost use Rattle.coded.specs.Refusals.{evenLimits, codedTypeRefusal, madeRefusal};
 ghost use Rattle.coded.specs.Making.{newCodedType, outcomeOfCodedType};
 ghost use Rattle.coded.specs.Getters.{bitLenOf, keyNameOf};
 use super::variants::DiagCodedTypeVariant;
@@ -62,6 +62,18 @@ impl DiagCodedType {
                 type_,
                 is_high_low_byte_order,
             }),
+        }
+    }
+
+    // 12, 13, 10 and 11: what either `new` refuses, of a coded type however it was made.
+    pub fn validate(self) -> Check
+        ensures { λ r. ⌜ numberOfCheck r ≡ madeRefusal self ⌝ }
+    {
+        let base_datatype = self.base_datatype;
+        let type_ = self.type_;
+        match type_.validate_limits() {
+            Check::Refused(refusal) => Check::Refused(refusal),
+            Check::Passed => validate(base_datatype, type_),
         }
     }
 

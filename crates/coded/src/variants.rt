@@ -1,7 +1,10 @@
 // The four variants of a coded type, and what each holds.
 ghost use mathlib.Core.Path.{_≡_};
+ghost use Rattle.kinds.specs.Answers.{numberOfCheck};
+ghost use Rattle.coded.specs.Refusals.{minMaxRefusal, limitsRefusal};
 ghost use Rattle.coded.specs.Making.{newMinMax, outcomeOfMinMax};
 use kinds::BitLength;
+use kinds::Check;
 use kinds::Refusal;
 
 // A part of the store of masks and key names.
@@ -60,22 +63,14 @@ impl MinMaxLengthType {
     pub fn new(min_length: u32, max_length: MaxLength, termination: Termination) -> MinMaxBuilt
         ensures { λ r. ⌜ outcomeOfMinMax r ≡ newMinMax «min_length» «max_length» termination ⌝ }
     {
-        match max_length {
-            MaxLength::Most(most) => {
-                if most == 0 {
-                    return MinMaxBuilt::Refused(Refusal::ZeroMaximum);
-                }
-                if most < min_length {
-                    return MinMaxBuilt::Refused(Refusal::MaximumBelowMinimum);
-                }
-            }
-            MaxLength::Unlimited => {}
+        match validate_limits(min_length, max_length) {
+            Check::Refused(refusal) => MinMaxBuilt::Refused(refusal),
+            Check::Passed => MinMaxBuilt::Made(MinMaxLengthType {
+                min_length,
+                max_length,
+                termination,
+            }),
         }
-        MinMaxBuilt::Made(MinMaxLengthType {
-            min_length,
-            max_length,
-            termination,
-        })
     }
 
     pub fn min_length(self) -> u32
@@ -94,5 +89,39 @@ impl MinMaxLengthType {
         ensures { λ r. ⌜ r ≡ self .termination ⌝ }
     {
         self.termination
+    }
+}
+
+fn validate_limits(min_length: u32, max_length: MaxLength) -> Check
+    ensures { λ r. ⌜ numberOfCheck r ≡ minMaxRefusal «min_length» «max_length» ⌝ }
+{
+    match max_length {
+        MaxLength::Most(most) => {
+            if most == 0 {
+                return Check::Refused(Refusal::ZeroMaximum);
+            }
+            if most < min_length {
+                return Check::Refused(Refusal::MaximumBelowMinimum);
+            }
+            Check::Passed
+        }
+        MaxLength::Unlimited => Check::Passed,
+    }
+}
+
+impl DiagCodedTypeVariant {
+    // 12 and 13, where the variant has limits.
+    pub fn validate_limits(self) -> Check
+        ensures { λ r. ⌜ numberOfCheck r ≡ limitsRefusal self ⌝ }
+    {
+        match self {
+            DiagCodedTypeVariant::LeadingLengthInfo(_) => Check::Passed,
+            DiagCodedTypeVariant::MinMaxLength(limits) => {
+                let max_length = limits.max_length;
+                validate_limits(limits.min_length, max_length)
+            }
+            DiagCodedTypeVariant::StandardLength(_) => Check::Passed,
+            DiagCodedTypeVariant::ParamLengthInfo(_) => Check::Passed,
+        }
     }
 }

@@ -1,5 +1,7 @@
 -- Document 01, 'Refusal numbers': what each refusal and each answer reports. Assumes nothing.
 use Prim.Native.Nat.{ℕ}
+use mathlib.Core.Bool.{cond}
+use lib.Dec.{eqb}
 use Rattle.kinds.specs.declared.refusals.Refusal.{Refusal}
 use Rattle.kinds.specs.declared.refusals.Refusal.the-variants.{NumericWithVariableLength, OddUnicodeLimits, ZeroMaximum, MaximumBelowMinimum, ByteTypeAtBitPosition, ZeroBitLength, IntegerTooLong, Float32Length, Float64Length, UnicodeLength, BitPositionAboveSeven, BitsPastCut, NotEnoughData, LengthFieldPastPayload, LengthFieldTooWide, CountTooLarge, ScanPastPayload, EmptyUntilEndOfPdu, MaskLongerThanLength, RuntimeLengthNeeded, EmptyLengthField, NotClearable, PayloadLacksRoom, OutputLacksRoom, MalformedRecord, SliceTooLong, UsedPastSlice, MalformedTable}
 use Rattle.kinds.specs.declared.refusals.Report.{Report}
@@ -17,6 +19,10 @@ refused n = record { number = n; «bit_count» = 0; «byte_count» = 0; expected
 -- 30, which alone says what was expected and what there is
 abbrev pub short : ℕ → ℕ → Report
 short e a = record { number = 30; «bit_count» = 0; «byte_count» = 0; expected = e; actual = a }
+
+-- what a refusal with the number n reports, where 30 says these two
+abbrev pub reportAt : ℕ → ℕ → ℕ → Report
+reportAt n e a = cond (eqb n 30) (short e a) (refused n)
 
 -- a successful reading: 0, and how many bits and bytes it gives
 abbrev pub read : ℕ → ℕ → Report

@@ -17,6 +17,10 @@ abbrev pub firstOf : List Rule → ℕ
 firstOf [] = 0
 firstOf (r ∷ rs) = cond (r .test) (r .number) (firstOf rs)
 
+-- a number, or the next where it is 0
+abbrev pub orElse : ℕ → ℕ → ℕ
+orElse a b = cond (eqb a 0) b a
+
 -- what is made, or the number with which the making is refused
 pub data Outcome (A : Type 0) : Type 0 where
   gives : A → Outcome A

@@ -1,4 +1,4 @@
-// Data types, bit lengths, byte counts and byte order by value, with the refusals, the answers, and the checks 20 to 25.
+// Data types, bit lengths, byte counts and byte order by value, with the refusals, the answers, the checks 20 to 25, and sums.
 mod refusals; // refusals.rt: the numbered refusals, and the answers of a check, a reading and a writing
 mod types; // types.rt: data types, bit lengths, byte counts, byte order, and the checks of position and length
 
@@ -11,3 +11,4 @@ pub use types::BitLength;
 pub use types::ByteCount;
 pub use types::ByteOrder;
 pub use types::DataType;
+pub use types::saturating_add;

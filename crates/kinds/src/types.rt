@@ -1,9 +1,10 @@
 // Data types, bit lengths and byte counts, byte order, and the checks of bit position and bit length.
 ghost use mathlib.Core.Path.{_≡_};
 ghost use mathlib.Core.Bool.{cond};
-ghost use Prim.Native.Nat.{_*_, _≤_, min};
+ghost use Prim.Native.Nat.{_*_, _^_, _<_, min};
 ghost use lib.Dec.{ltb};
 ghost use Rattle.kinds.specs.Types.{isByteType, isUnicode, byteOrder, bytesFor};
+ghost use Rattle.kinds.specs.Slices.{sum};
 ghost use Rattle.kinds.specs.Answers.{numberOfCheck};
 ghost use Rattle.kinds.specs.Refusals.{bitPositionRefusal, bitLengthRefusal};
 use super::refusals::Check;
@@ -67,9 +68,9 @@ impl ByteCount {
         self.0
     }
 
-    // Eight bits to each byte, of no more bytes than a slice may have.
+    // Eight bits to each byte, as far as a length in bits can tell.
     pub fn bit_length(self) -> BitLength
-        requires { ⌜ self .0 ≤ 65535 ⌝ }
+        requires { ⌜ self .0 < 2 ^ 29 ⌝ }
         ensures { λ r. ⌜ r .0 ≡ 8 * self .0 ⌝ }
     {
         let bytes = self.0 as u32;
@@ -182,4 +183,15 @@ fn at_most_64(bits: u32) -> Check
         return Check::Refused(Refusal::IntegerTooLong);
     }
     Check::Passed
+}
+
+// The sum of two positions, or the largest number where that is larger.
+pub fn saturating_add(a: usize, b: usize) -> usize
+    ensures { λ r. ⌜ r ≡ sum a b ⌝ }
+{
+    let room = 0xFFFF_FFFF_FFFF_FFFF - a;
+    if room < b {
+        return 0xFFFF_FFFF_FFFF_FFFF;
+    }
+    a + b
 }

@@ -1,3 +1,4 @@
--- `Plain` has masks in plain use, and `Condensed` those that gather and put apart.
+-- `Mask` has what a mask may be, `Plain` masks in plain use, and `Condensed` those that gather and put apart.
+pub mod Mask
 pub mod Plain
 pub mod Condensed

@@ -9,3 +9,10 @@ pub use condensed::count_mask_ones;
 pub use condensed::gather_bits;
 pub use plain::Kept;
 pub use plain::apply_bit_mask;
+
+// What a field does with a mask. Without one it has no mask, not even an empty one.
+pub enum MaskUse {
+    Absent,
+    Plain,
+    Condensed,
+}

@@ -1,27 +1,25 @@
 -- `MinMaxLengthType::new` meets its contract. Assumes nothing.
-use borrow.Author.Tests.{ne-eqb, lt-ltb, le-ltb}
+use mathlib.Core.Path.{sym}
+use Rattle.kinds.proofs.Refused.{none-made}
 use borrow.Author.Needs.{needs}
 use Rattle.coded.proofs.variants.MinMaxLengthType.new.Statement.{statement}
 use Rattle.coded.proofs.variants.MinMaxLengthType.new.Tie as tie
 
-enum-known-max-length : tie.Need-enum-known-max-length
-enum-known-max-length c = search needs
+validate-limits-requires : tie.Need-validate-limits-requires
+validate-limits-requires c κs = search needs
 
-returns : tie.Need-returns
-returns c = rw (c .before .before .max-length .given .1, c .if1 .taken)
-
-returns-2 : tie.Need-returns-2
-returns-2 c = rw (c .before .before .before .max-length .given .1, ne-eqb _ _ (c .before .if1 .left), lt-ltb _ _ (c .if2 .taken))
+enum-known-refusal : tie.Need-enum-known-refusal
+enum-known-refusal c = search needs
 
 enum-told : tie.Need-enum-told
 enum-told c = search needs
 
-returns-3 : tie.Need-returns-3
-returns-3 c = rw (c .before .before .before .max-length .given .1, ne-eqb _ _ (c .before .if1 .left), le-ltb _ _ (c .if2 .left))
+returns : tie.Need-returns
+returns c = none-made _ (c .before .refusal .given .0 .0) _ (rw (c .before .refusal .given .1) at (c .before .before .before .validate-limits .ensures))
 
-returns-4 : tie.Need-returns-4
-returns-4 c = rw (c .enum-told .given .1)
+returns-2 : tie.Need-returns-2
+returns-2 c = rw (sym (c .before .before .validate-limits .ensures), c .enum-told .given .1)
 
 pub new-spec : {M : Type 1} → statement M
 new-spec =
-    tie.close (tie.spec enum-known-max-length returns returns-2 enum-told returns-3 returns-4)
+    tie.close (tie.spec validate-limits-requires enum-known-refusal enum-told returns returns-2)

@@ -1,0 +1,51 @@
+-- `field::length_key_name` meets its contract. Assumes nothing.
+use mathlib.Core.Path.{sym, ap, _∙_}
+use Rattle.kinds.proofs.Refused.{never-0}
+use Rattle.field.specs.Field.{placed}
+use borrow.Author.Needs.{needs}
+use Rattle.field.proofs.length_key_name.Statement.{statement}
+use Rattle.field.proofs.length_key_name.Tie as tie
+
+validate-call-requires : tie.Need-validate-call-requires
+validate-call-requires c κs = search needs
+
+enum-known-refusal : tie.Need-enum-known-refusal
+enum-known-refusal c = search needs
+
+number-requires : tie.Need-number-requires
+number-requires c κs = search needs
+
+slice-aggregate-result : tie.Need-slice-aggregate-result
+slice-aggregate-result c = search needs
+
+enum-told : tie.Need-enum-told
+enum-told c = search needs
+
+length-key-place-requires : tie.Need-length-key-place-requires
+length-key-place-requires c κs = search needs
+
+placed-part-requires : tie.Need-placed-part-requires
+placed-part-requires c κs = search needs
+
+returns : tie.Need-returns
+returns c = let r = c .before .before .before .refusal .given in
+    let n = rw (r .1) at (c .before .before .before .before .before .validate-call .ensures) in
+    (c .before .number .ensures ∙ n, rw (sym n, never-0 (r .0 .0)))
+
+returns-2 : tie.Need-returns-2
+returns-2 c = let n = sym (rw (c .before .before .enum-told .given .1) at (c .before .before .before .before .validate-call .ensures)) in
+    (sym n, rw n (c .placed-part .ensures ∙ ap (placed (c .before .before .before .before .before .before .args .store .now)) (c .before .length-key-place .ensures)))
+
+pub length-key-name-spec : {M : Type 1} → statement M
+length-key-name-spec =
+    tie.close
+    (tie.spec
+    validate-call-requires
+    enum-known-refusal
+    number-requires
+    slice-aggregate-result
+    enum-told
+    length-key-place-requires
+    placed-part-requires
+    returns
+    returns-2)

@@ -1,0 +1,86 @@
+-- `unpack::unpack_data` meets its contract. Assumes nothing.
+use Prim.Native.Nat.{_+_, _*_, _<_}
+use mathlib.Core.Path.{refl, sym}
+use lib.ListN.{length}
+use native.Mathlib.Omega.{arith}
+use Rattle.order.specs.Order.{ordered}
+use Rattle.order.proofs.Index.{length-ordered}
+use Rattle.unpack.proofs.Answers.{refused-first, is-26, is-27}
+use borrow.Author.Needs.{needs}
+use Rattle.unpack.proofs.unpack_data.Statement.{statement}
+use Rattle.unpack.proofs.unpack_data.Tie as tie
+
+returns : tie.Need-returns
+returns c = sym (refused-first _ 0 (c .before .before .before .before .args .output .now) 26 (is-26 _ _ _ (c .if1 .taken)) refl)
+
+mul-if2 : tie.Need-mul-if2
+mul-if2 c = search needs
+
+bits-requires : tie.Need-bits-requires
+bits-requires c κs = search needs
+
+add-if2 : tie.Need-add-if2
+add-if2 c = search needs
+
+returns-2 : tie.Need-returns-2
+returns-2 c = let s = c .before .before .before .before .before .before in
+    let past : 8 * length (ordered (s .args .byte-order) (s .args .«data» .now)) < s .args .bit-pos + s .args .bit-len .0 = omega (arith, length-ordered (s .args .byte-order) (s .args .«data» .now)) in
+    sym (refused-first _ 0 (s .args .output .now) 27 (is-27 _ _ _ (c .before .before .if1 .left) past) refl)
+
+enum-told : tie.Need-enum-told
+enum-told c = search needs
+
+unpack-bits-requires : tie.Need-unpack-bits-requires
+unpack-bits-requires c κs = search needs
+
+enum-told-2 : tie.Need-enum-told-2
+enum-told-2 c = search needs
+
+unpack-bits-requires-2 : tie.Need-unpack-bits-requires-2
+unpack-bits-requires-2 c κs = search needs
+
+enum-told-3 : tie.Need-enum-told-3
+enum-told-3 c = search needs
+
+apply-condensed-mask-unpacking-requires : tie.Need-apply-condensed-mask-unpacking-requires
+apply-condensed-mask-unpacking-requires c κs = search needs
+
+same-length : tie.Need-same-length
+same-length c = search needs
+
+returns-3 : tie.Need-returns-3
+returns-3 c = rw (c .before .before .before .before .enum-told .given .1) (c .before .before .unpack-bits .ensures)
+
+same-length-2 : tie.Need-same-length-2
+same-length-2 c = search needs
+
+returns-4 : tie.Need-returns-4
+returns-4 c = rw (c .before .before .before .before .enum-told2 .given .1) (c .before .before .unpack-bits2 .ensures)
+
+same-length-3 : tie.Need-same-length-3
+same-length-3 c = search needs
+
+returns-5 : tie.Need-returns-5
+returns-5 c = rw (c .before .before .before .before .enum-told3 .given .1) (c .before .before .apply-condensed-mask-unpacking .ensures)
+
+pub unpack-data-spec : {M : Type 1} → statement M
+unpack-data-spec =
+    tie.close
+    (tie.spec
+    returns
+    mul-if2
+    bits-requires
+    add-if2
+    returns-2
+    enum-told
+    unpack-bits-requires
+    enum-told-2
+    unpack-bits-requires-2
+    enum-told-3
+    apply-condensed-mask-unpacking-requires
+    same-length
+    returns-3
+    same-length-2
+    returns-4
+    same-length-3
+    returns-5)

@@ -1,0 +1,43 @@
+-- Document 01, 'Decode': what is taken from a field's ordered bytes, under its mask. Assumes nothing.
+use Prim.Native.Nat.{ℕ, _+_, _*_}
+use mathlib.Core.List.{List, [], _∷_}
+use lib.ListN.{length}
+use lib.Dec.{ltb}
+use Rattle.kinds.specs.Rules.{rule, firstOf}
+use Rattle.bits.specs.Bits.{bitAt}
+use Rattle.bits.specs.Moves.{from, extracted}
+use Rattle.masks.specs.declared.plain.Kept.the-variants.{UnderOnes}
+use Rattle.masks.specs.Mask.{Mask, noMask, plainMask, condensedMask}
+use Rattle.masks.specs.Plain.{masked}
+use Rattle.masks.specs.Condensed.{condensedCount, condensed}
+use Rattle.unpack.specs.Answers.{Finding}
+
+-- 26: bit position above 7; 27: bit position + length above 8 x cut bytes
+abbrev pub unpackRefusal : ℕ → ℕ → ℕ → ℕ
+unpackRefusal len pos n =
+    firstOf
+    (rule (ltb 7 pos) 26
+    ∷ rule (ltb (8 * n) (pos + len)) 27
+    ∷ [])
+
+-- the bit count
+abbrev pub bitCount : Mask → ℕ → ℕ
+bitCount noMask len = len
+bitCount (plainMask mask) len = len
+bitCount (condensedMask mask) len = condensedCount mask len
+
+-- `len` bits from `pos`, right-aligned; a plain mask then keeps or clears, a condensed one gathers
+unfoldable pub unpacked : Mask → ℕ → ℕ → List ℕ → List ℕ
+unpacked noMask len pos xs = extracted len pos xs
+unpacked (plainMask mask) len pos xs = masked UnderOnes len pos mask (extracted len pos xs)
+unpacked (condensedMask mask) len pos xs = condensed mask len (from pos (bitAt xs))
+
+-- what is found in a cut of ordered bytes
+abbrev pub inCut : Mask → ℕ → ℕ → List ℕ → Finding
+inCut mask len pos xs =
+    record {
+      number = unpackRefusal len pos (length xs);
+      expected = 0;
+      bits = bitCount mask len;
+      bytes = unpacked mask len pos xs;
+    }
