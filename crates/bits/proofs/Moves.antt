@@ -5,15 +5,16 @@ use mathlib.Core.Bool.{Bool, true, false, cond, _&&_}
 use mathlib.Core.List.{List}
 use Prim.Native.Nat.{ℕ, _+_, _-_, _*_, _≤_, _<_, min}
 use native.Mathlib.Omega.{arith}
+use native.Mathlib.Nat.{zero-add}
 use lib.ListN.{length}
 use lib.Dec.{ltb, leb}
 use borrow.Author.Tests.{lt-ltb, le-ltb, le-leb, lt-leb}
 use Rattle.kinds.specs.Types.{bytesFor}
 use Rattle.kinds.proofs.Compare.{below}
-use Rattle.bits.specs.Bits.{bitAt}
+use Rattle.bits.specs.Bits.{bitAt, packed}
 use Rattle.bits.specs.Moves.{first, from, raised, either, extracted, injected, within, overlaid}
 use Rattle.bits.proofs.Numbers.{Bits}
-use Rattle.bits.proofs.Bytes.{bitAt-lt, bitAt-out, bitAt-packed, length-packed}
+use Rattle.bits.proofs.Bytes.{Bytes, bitAt-lt, bitAt-out, bitAt-packed, length-packed, packed-ext, repack}
 
 -- ---- they give bits
 
@@ -105,3 +106,12 @@ pub bitAt-overlaid : (own : ℕ → Bool) (new : ℕ → ℕ) (xs : List ℕ) �
 unfolding overlaid
 bitAt-overlaid own new xs b k l =
     bitAt-packed (length xs) (λ j. cond (own j) (new j) (bitAt xs j)) (λ j. bits-cond (own j) (b j) (bitAt-lt xs j)) k l
+
+-- all bits of whole bytes are the bytes
+pub extracted-whole : (xs : List ℕ) (n : ℕ) → Bytes xs → length xs ≡ n → extracted (8 * n) 0 xs ≡ xs
+unfolding extracted
+extracted-whole xs n h e =
+    let all : bytesFor (8 * n) ≡ length xs = omega arith in
+    ap (λ (k : ℕ). packed k (first (8 * n) (from 0 (bitAt xs)))) all
+    ∙ packed-ext (length xs) (first (8 * n) (from 0 (bitAt xs))) (bitAt xs) (λ i l. first-in (8 * n) (from 0 (bitAt xs)) i (omega arith) ∙ ap (bitAt xs) (zero-add i))
+    ∙ repack xs h

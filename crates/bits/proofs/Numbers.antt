@@ -1,9 +1,9 @@
 -- Bits of a number, and numbers made of bits. Assumes nothing.
-use mathlib.Core.Path.{_≡_, refl, ap, ap₂, _∙_}
+use mathlib.Core.Path.{_≡_, refl, sym, ap, ap₂, _∙_}
 use mathlib.Core.Bool.{cond}
 use Prim.Native.Nat.{ℕ, zero, suc, _+_, _-_, _*_, _/_, _%_, _^_, _<_, min, max}
 use native.Mathlib.Omega.{arith}
-use native.Mathlib.Nat.{mod-lt, zero-lt-suc, div-div-eq-div-mul, pow-suc, mul-comm}
+use native.Mathlib.Nat.{mod-lt, zero-lt-suc, div-div-eq-div-mul, zero-add, pow-suc, mul-comm, mod-eq-of-lt, add-mul-mod-self-left}
 use lib.Dec.{eqb, eqb·zero-suc, eqb·suc-zero, eqb·suc-suc}
 use lib.Bits.{bitOr, bitAnd, or-shr, and-shr, or-mod, and-mod, shifted-half, shifted-even}
 use Rattle.bits.specs.Bits.{bit, number}
@@ -100,3 +100,21 @@ number-bits (suc n) x h =
     ap₂ (λ (a b : ℕ). a + 2 * b) (bit-zero x)
     (number-ext n (λ k. bit x (suc k)) (bit (x / 2)) (λ k l. bit-suc x k) ∙ number-bits n (x / 2) (let h2 : x < 2 ^ n * 2 = rw pow-suc at h in omega arith))
     ∙ omega arith
+
+-- ---- more bits
+
+pub number-add : (a b : ℕ) (f : ℕ → ℕ) → number (a + b) f ≡ number a f + 2 ^ a * number b (λ k. f (a + k))
+unfolding number
+number-add zero b f =
+    ap (λ (n : ℕ). number n f) (zero-add b) ∙ number-ext b f (λ k. f (0 + k)) (λ k l. ap f (sym (zero-add k))) ∙ omega arith
+number-add (suc a) b f =
+    let up : suc a + b ≡ suc (a + b) = omega arith in
+    let rest = number-ext b (λ k. f (suc (a + k))) (λ k. f (suc a + k)) (λ k l. ap f (omega arith)) in
+    ap (λ (n : ℕ). number n f) up
+    ∙ ap (λ (x : ℕ). f 0 + 2 * x) (number-add a b (λ k. f (suc k)) ∙ ap (λ (x : ℕ). number a (λ k. f (suc k)) + 2 ^ a * x) rest)
+    ∙ rw (pow-suc 2 a) (omega arith)
+
+-- the lowest bits of a number of bits
+pub number-lowest : (a b : ℕ) (f : ℕ → ℕ) → Bits f → number (a + b) f % 2 ^ a ≡ number a f
+number-lowest a b f h =
+    ap (λ (n : ℕ). n % 2 ^ a) (number-add a b f) ∙ add-mul-mod-self-left (number a f) (2 ^ a) (number b (λ k. f (a + k))) ∙ mod-eq-of-lt (number-lt a f h)

@@ -1,13 +1,26 @@
--- Whether a part ends past a store, told without a sum that could wrap. Assumes nothing.
+-- Whether a part ends past a store, told without a sum that could wrap, and how long a part is. Assumes nothing.
 use mathlib.Core.Path.{_≡_, sym, _∙_}
 use mathlib.Core.Logic.{⊎-elim}
 use Prim.Native.Nat.{ℕ, _+_, _-_, _<_, _≤_}
 use native.Mathlib.Omega.{arith}
+use mathlib.Core.List.{List}
+use lib.ListN.{length, length-take, length-drop}
 use lib.Dec.{ltb}
 use borrow.Author.Tests.{lt-ltb, le-ltb}
 use Rattle.kinds.proofs.Compare.{below}
+use Rattle.coded.specs.declared.variants.OptionalPlace.{OptionalPlace}
+use Rattle.coded.specs.declared.variants.OptionalPlace.the-variants.{At, Absent}
+use Rattle.field.specs.Field.{placed}
 
 pub less-room : (n at len : ℕ) → at ≤ n → ltb (n - at) len ≡ ltb n (at + len)
 less-room n at len h =
     ⊎-elim (λ l. lt-ltb (n - at) len l ∙ sym (lt-ltb n (at + len) (omega arith))) (λ l. le-ltb (n - at) len l ∙ sym (le-ltb n (at + len) (omega arith)))
     (below (n - at) len)
+
+-- a part of a store is not longer than the store
+pub placed-le : (store : List ℕ) (p : OptionalPlace) {n : ℕ} → length store ≤ n → length (placed store p) ≤ n
+placed-le store Absent h = omega arith
+placed-le store (At p) h =
+    ⊎-elim (λ (l : length store < p .at + p .len). rw (lt-ltb (length store) (p .at + p .len) l) (omega arith))
+    (λ (l : p .at + p .len ≤ length store). rw (le-ltb (length store) (p .at + p .len) l) (simp (length-take, length-drop) (omega arith)))
+    (below (length store) (p .at + p .len))

@@ -1,7 +1,6 @@
 -- Document 01, 'Order', up to 11: what is refused before a call's own rules. Assumes nothing.
 use Prim.Native.Nat.{ℕ}
-use mathlib.Core.List.{List, [], _∷_}
-use lib.ListN.{length}
+use mathlib.Core.List.{[], _∷_}
 use lib.Dec.{ltb}
 use Rattle.kinds.specs.Rules.{rule, firstOf, orElse}
 use Rattle.coded.specs.declared.variants.OptionalPlace.{OptionalPlace}

@@ -1,17 +1,17 @@
 -- An answer from what is found, a law for each way to it. Assumes nothing.
-use mathlib.Core.Path.{_≡_, refl, sym, ap, _∙_}
-use mathlib.Core.Bool.{Bool, true, false, cond}
+use mathlib.Core.Path.{_≡_}
+use mathlib.Core.Bool.{false}
 use mathlib.Core.List.{List, _++_}
 use Prim.Native.Nat.{ℕ, _+_, _*_, _≤_, _<_}
 use lib.ListN.{length, drop}
-use lib.Dec.{eqb, ltb}
+use lib.Dec.{eqb}
 use borrow.Author.Tests.{lt-ltb, le-ltb}
 use Rattle.kinds.specs.declared.types.BitLength.{BitLength}
 use Rattle.kinds.specs.declared.types.ByteCount.{ByteCount}
 use Rattle.kinds.specs.declared.refusals.Reading.the-variants.{Read}
 use Rattle.kinds.specs.Answers.{refused, read, reportAt}
-use Rattle.kinds.specs.Rules.{orElse}
 use Rattle.kinds.specs.declared.types.ByteOrder.{ByteOrder}
+use Rattle.kinds.proofs.Rules.{eqb-cond, cond-same}
 use Rattle.order.specs.Order.{ordered}
 use Rattle.order.proofs.Index.{length-ordered}
 use Rattle.unpack.specs.Answers.{Finding, Decoded, answer, answered}
@@ -47,6 +47,9 @@ is-26 len pos n h = rw (lt-ltb 7 pos h)
 
 pub is-27 : (len pos n : ℕ) → pos ≤ 7 → 8 * n < pos + len → unpackRefusal len pos n ≡ 27
 is-27 len pos n p h = rw (le-ltb 7 pos p, lt-ltb (8 * n) (pos + len) h)
+
+pub unpack-not-30 : (len pos n : ℕ) → eqb (unpackRefusal len pos n) 30 ≡ false
+unpack-not-30 len pos n = simp (eqb-cond, cond-same)
 
 -- the ordered form is as long
 pub fits-ordered : (o : ByteOrder) (xs : List ℕ) (len pos : ℕ) → pos ≤ 7 → pos + len ≤ 8 * length xs → unpackRefusal len pos (length (ordered o xs)) ≡ 0

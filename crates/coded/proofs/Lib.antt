@@ -1,0 +1,2 @@
+-- `Numbers` has which number is never given.
+pub mod Numbers

@@ -1,0 +1,44 @@
+-- `decode::decode_min_max_len` meets its contract. Assumes nothing.
+use mathlib.Core.Path.{ap, _∙_}
+use mathlib.Core.Bool.{Bool}
+use Rattle.masks.specs.Mask.{noMask}
+use Rattle.positions.specs.Located.{Located}
+use Rattle.positions.specs.MinMax.{minMaxPlace}
+use Rattle.decode.specs.Located.{readAt}
+use Rattle.decode.proofs.Findings.{min-max-read}
+use borrow.Author.Needs.{needs}
+use Rattle.decode.proofs.variants.decode_min_max_len.Statement.{statement}
+use Rattle.decode.proofs.variants.decode_min_max_len.Tie as tie
+
+is-unicode-requires : tie.Need-is-unicode-requires
+is-unicode-requires c κs = search needs
+
+pos-info-min-max-len-requires : tie.Need-pos-info-min-max-len-requires
+pos-info-min-max-len-requires c κs = search needs
+
+slice-aggregate-unpack-found : tie.Need-slice-aggregate-unpack-found
+slice-aggregate-unpack-found c = search needs
+
+unpack-found-requires : tie.Need-unpack-found-requires
+unpack-found-requires c κs = search needs
+
+same-length : tie.Need-same-length
+same-length c = search needs
+
+returns : tie.Need-returns
+returns c = let s = c .before .before .before .before .before .before .before .before .before in
+    c .before .before .unpack-found .ensures
+    ∙ ap (λ (l : Located). readAt l (s .args .byte-order) noMask (s .args .uds-payload .now) 0 (s .args .output .now))
+    (c .before .before .before .before .before .pos-info-min-max-len .ensures ∙ ap (λ (u : Bool). minMaxPlace (s .args .limits) u (s .args .uds-payload .now) (s .args .byte-pos)) (c .before .before .before .before .before .before .is-unicode .ensures))
+    ∙ min-max-read (s .args .base-datatype) (s .args .byte-order) (s .args .limits) (s .args .uds-payload .now) (s .args .byte-pos) (s .pre) (λ j. c .before .before .before .before .before .before .before .before .shared-slice-known .given j .fits) (s .args .output .now)
+
+pub decode-min-max-len-spec : {M : Type 1} → statement M
+decode-min-max-len-spec =
+    tie.close
+    (tie.spec
+    is-unicode-requires
+    pos-info-min-max-len-requires
+    slice-aggregate-unpack-found
+    unpack-found-requires
+    same-length
+    returns)
