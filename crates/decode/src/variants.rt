@@ -26,13 +26,13 @@ fn unpack_at(
     bit_pos: usize,
     mask_use: MaskUse,
     mask: &[u8],
-    uds_payload: &[u8],
+    payload: &[u8],
     byte_order: ByteOrder,
     output: &mut [u8],
 ) -> Reading
     requires { ⌜ length (now mask) ≤ 65535 ⌝ }
-    requires { ⌜ length (now «uds_payload») ≤ 65535 ⌝ }
-    ensures { λ r. ⌜ answered r (now (output .exit)) ≡ readBits «byte_order» («bit_len» .0) (maskOf «mask_use» (now (mask .entry))) (now («uds_payload» .entry)) «start_pos» «bit_pos» (now (output .entry)) ⌝ }
+    requires { ⌜ length (now payload) ≤ 65535 ⌝ }
+    ensures { λ r. ⌜ answered r (now (output .exit)) ≡ readBits «byte_order» («bit_len» .0) (maskOf «mask_use» (now (mask .entry))) (now (payload .entry)) «start_pos» «bit_pos» (now (output .entry)) ⌝ }
 {
     // nothing to extract: with limits and a minimum of 0 that may be past the payload
     if bit_len.bits() == 0 {
@@ -42,10 +42,10 @@ fn unpack_at(
         };
     }
     let end_pos = kinds::saturating_add(start_pos, bit_len.byte_count().bytes());
-    if uds_payload.len() < end_pos {
+    if payload.len() < end_pos {
         return Reading::Refused(Refusal::NotEnoughData {
             expected: end_pos,
-            actual: uds_payload.len(),
+            actual: payload.len(),
         });
     }
     unpack::unpack_data(
@@ -53,7 +53,7 @@ fn unpack_at(
         bit_pos,
         mask_use,
         mask,
-        &uds_payload[start_pos..end_pos],
+        &payload[start_pos..end_pos],
         byte_order,
         output,
     )
@@ -64,13 +64,13 @@ fn unpack_found(
     bit_pos: usize,
     mask_use: MaskUse,
     mask: &[u8],
-    uds_payload: &[u8],
+    payload: &[u8],
     byte_order: ByteOrder,
     output: &mut [u8],
 ) -> Reading
     requires { ⌜ length (now mask) ≤ 65535 ⌝ }
-    requires { ⌜ length (now «uds_payload») ≤ 65535 ⌝ }
-    ensures { λ r. ⌜ answered r (now (output .exit)) ≡ readAt (locatedOf «pos_info») «byte_order» (maskOf «mask_use» (now (mask .entry))) (now («uds_payload» .entry)) «bit_pos» (now (output .entry)) ⌝ }
+    requires { ⌜ length (now payload) ≤ 65535 ⌝ }
+    ensures { λ r. ⌜ answered r (now (output .exit)) ≡ readAt (locatedOf «pos_info») «byte_order» (maskOf «mask_use» (now (mask .entry))) (now (payload .entry)) «bit_pos» (now (output .entry)) ⌝ }
 {
     match pos_info {
         PosInfo::Refused(refusal) => Reading::Refused(refusal),
@@ -80,7 +80,7 @@ fn unpack_found(
             bit_pos,
             mask_use,
             mask,
-            uds_payload,
+            payload,
             byte_order,
             output,
         ),
@@ -91,17 +91,17 @@ fn unpack_found(
 fn decode_leading_len(
     base_datatype: DataType,
     bits: BitLength,
-    uds_payload: &[u8],
+    payload: &[u8],
     byte_pos: usize,
     byte_order: ByteOrder,
     output: &mut [u8],
 ) -> Reading
-    requires { ⌜ length (now «uds_payload») ≤ 65535 ⌝ }
-    ensures { λ r. ⌜ answered r (now (output .exit)) ≡ answer (leadingFinding «base_datatype» «byte_order» (bits .0) (now («uds_payload» .entry)) «byte_pos») (length (now («uds_payload» .entry))) (now (output .entry)) ⌝ }
+    requires { ⌜ length (now payload) ≤ 65535 ⌝ }
+    ensures { λ r. ⌜ answered r (now (output .exit)) ≡ answer (leadingFinding «base_datatype» «byte_order» (bits .0) (now (payload .entry)) «byte_pos») (length (now (payload .entry))) (now (output .entry)) ⌝ }
 {
     let pos_info = positions::pos_info_leading_len(
         base_datatype,
-        uds_payload,
+        payload,
         byte_pos,
         byte_order,
         bits,
@@ -110,8 +110,8 @@ fn decode_leading_len(
         pos_info,
         0,
         MaskUse::Absent,
-        &uds_payload[..0],
-        uds_payload,
+        &payload[..0],
+        payload,
         byte_order,
         output,
     )
@@ -121,17 +121,17 @@ fn decode_leading_len(
 fn decode_min_max_len(
     base_datatype: DataType,
     limits: MinMaxLengthType,
-    uds_payload: &[u8],
+    payload: &[u8],
     byte_pos: usize,
     byte_order: ByteOrder,
     output: &mut [u8],
 ) -> Reading
-    requires { ⌜ length (now «uds_payload») ≤ 65535 ⌝ }
-    ensures { λ r. ⌜ answered r (now (output .exit)) ≡ answer (minMaxFinding «base_datatype» «byte_order» limits (now («uds_payload» .entry)) «byte_pos») (length (now («uds_payload» .entry))) (now (output .entry)) ⌝ }
+    requires { ⌜ length (now payload) ≤ 65535 ⌝ }
+    ensures { λ r. ⌜ answered r (now (output .exit)) ≡ answer (minMaxFinding «base_datatype» «byte_order» limits (now (payload .entry)) «byte_pos») (length (now (payload .entry))) (now (output .entry)) ⌝ }
 {
     let pos_info = positions::pos_info_min_max_len(
         base_datatype.is_unicode(),
-        uds_payload,
+        payload,
         byte_pos,
         limits,
     );
@@ -139,8 +139,8 @@ fn decode_min_max_len(
         pos_info,
         0,
         MaskUse::Absent,
-        &uds_payload[..0],
-        uds_payload,
+        &payload[..0],
+        payload,
         byte_order,
         output,
     )
@@ -150,15 +150,15 @@ fn decode_standard_len(
     base_datatype: DataType,
     standard: StandardLengthType,
     store: &[u8],
-    uds_payload: &[u8],
+    payload: &[u8],
     byte_pos: usize,
     bit_pos: usize,
     byte_order: ByteOrder,
     output: &mut [u8],
 ) -> Reading
     requires { ⌜ length (now store) ≤ 65535 ⌝ }
-    requires { ⌜ length (now «uds_payload») ≤ 65535 ⌝ }
-    ensures { λ r. ⌜ answered r (now (output .exit)) ≡ answer (standardFinding «base_datatype» «byte_order» (standard .«bit_length» .0) (maskIn (now (store .entry)) standard) (now («uds_payload» .entry)) «byte_pos» «bit_pos») (length (now («uds_payload» .entry))) (now (output .entry)) ⌝ }
+    requires { ⌜ length (now payload) ≤ 65535 ⌝ }
+    ensures { λ r. ⌜ answered r (now (output .exit)) ≡ answer (standardFinding «base_datatype» «byte_order» (standard .«bit_length» .0) (maskIn (now (store .entry)) standard) (now (payload .entry)) «byte_pos» «bit_pos») (length (now (payload .entry))) (now (output .entry)) ⌝ }
 {
     let bit_length = standard.bit_length;
     let bit_mask = standard.bit_mask;
@@ -170,7 +170,7 @@ fn decode_standard_len(
         bit_pos,
         mask_use,
         mask,
-        uds_payload,
+        payload,
         byte_order,
         output,
     )
@@ -180,38 +180,28 @@ pub fn decode_variant(
     base_datatype: DataType,
     type_: DiagCodedTypeVariant,
     store: &[u8],
-    uds_payload: &[u8],
+    payload: &[u8],
     byte_pos: usize,
     bit_pos: usize,
     byte_order: ByteOrder,
     output: &mut [u8],
 ) -> Reading
     requires { ⌜ length (now store) ≤ 65535 ⌝ }
-    requires { ⌜ length (now «uds_payload») ≤ 65535 ⌝ }
-    ensures { λ r. ⌜ answered r (now (output .exit)) ≡ answer (shapeFinding «base_datatype» «byte_order» (shapeOf (now (store .entry)) «type_») (now («uds_payload» .entry)) «byte_pos» «bit_pos») (length (now («uds_payload» .entry))) (now (output .entry)) ⌝ }
+    requires { ⌜ length (now payload) ≤ 65535 ⌝ }
+    ensures { λ r. ⌜ answered r (now (output .exit)) ≡ answer (shapeFinding «base_datatype» «byte_order» (shapeOf (now (store .entry)) «type_») (now (payload .entry)) «byte_pos» «bit_pos») (length (now (payload .entry))) (now (output .entry)) ⌝ }
 {
     match type_ {
-        DiagCodedTypeVariant::LeadingLengthInfo(bits) => decode_leading_len(
-            base_datatype,
-            bits,
-            uds_payload,
-            byte_pos,
-            byte_order,
-            output,
-        ),
-        DiagCodedTypeVariant::MinMaxLength(limits) => decode_min_max_len(
-            base_datatype,
-            limits,
-            uds_payload,
-            byte_pos,
-            byte_order,
-            output,
-        ),
+        DiagCodedTypeVariant::LeadingLengthInfo(bits) => {
+            decode_leading_len(base_datatype, bits, payload, byte_pos, byte_order, output)
+        }
+        DiagCodedTypeVariant::MinMaxLength(limits) => {
+            decode_min_max_len(base_datatype, limits, payload, byte_pos, byte_order, output)
+        }
         DiagCodedTypeVariant::StandardLength(standard) => decode_standard_len(
             base_datatype,
             standard,
             store,
-            uds_payload,
+            payload,
             byte_pos,
             bit_pos,
             byte_order,

@@ -23,8 +23,8 @@ same-length c = search needs
 returns : tie.Need-returns
 returns c = let s = c .before .before .before .before .before .before .before .before in
     c .before .before .unpack-found .ensures
-    ∙ ap (λ (l : Located). readAt l (s .args .byte-order) noMask (s .args .uds-payload .now) 0 (s .args .output .now)) (c .before .before .before .before .before .pos-info-leading-len .ensures)
-    ∙ leading-read (s .args .base-datatype) (s .args .byte-order) (s .args .bits .0) (s .args .uds-payload .now) (s .args .byte-pos) (s .pre) (λ j. c .before .before .before .before .before .before .before .shared-slice-known .given j .fits) (s .args .output .now)
+    ∙ ap (λ (l : Located). readAt l (s .args .byte-order) noMask (s .args .payload .now) 0 (s .args .output .now)) (c .before .before .before .before .before .pos-info-leading-len .ensures)
+    ∙ leading-read (s .args .base-datatype) (s .args .byte-order) (s .args .bits .0) (s .args .payload .now) (s .args .byte-pos) (s .pre) (λ j. c .before .before .before .before .before .before .before .shared-slice-known .given j .fits) (s .args .output .now)
 
 pub decode-leading-len-spec : {M : Type 1} → statement M
 decode-leading-len-spec =

@@ -28,9 +28,9 @@ same-length c = search needs
 returns : tie.Need-returns
 returns c = let s = c .before .before .before .before .before .before .before .before .before in
     c .before .before .unpack-found .ensures
-    ∙ ap (λ (l : Located). readAt l (s .args .byte-order) noMask (s .args .uds-payload .now) 0 (s .args .output .now))
-    (c .before .before .before .before .before .pos-info-min-max-len .ensures ∙ ap (λ (u : Bool). minMaxPlace (s .args .limits) u (s .args .uds-payload .now) (s .args .byte-pos)) (c .before .before .before .before .before .before .is-unicode .ensures))
-    ∙ min-max-read (s .args .base-datatype) (s .args .byte-order) (s .args .limits) (s .args .uds-payload .now) (s .args .byte-pos) (s .pre) (λ j. c .before .before .before .before .before .before .before .before .shared-slice-known .given j .fits) (s .args .output .now)
+    ∙ ap (λ (l : Located). readAt l (s .args .byte-order) noMask (s .args .payload .now) 0 (s .args .output .now))
+    (c .before .before .before .before .before .pos-info-min-max-len .ensures ∙ ap (λ (u : Bool). minMaxPlace (s .args .limits) u (s .args .payload .now) (s .args .byte-pos)) (c .before .before .before .before .before .before .is-unicode .ensures))
+    ∙ min-max-read (s .args .base-datatype) (s .args .byte-order) (s .args .limits) (s .args .payload .now) (s .args .byte-pos) (s .pre) (λ j. c .before .before .before .before .before .before .before .before .shared-slice-known .given j .fits) (s .args .output .now)
 
 pub decode-min-max-len-spec : {M : Type 1} → statement M
 decode-min-max-len-spec =

@@ -29,9 +29,9 @@ same-length c = search needs
 returns : tie.Need-returns
 returns c = let s = c .before .before .before .before .before .before .before .before .before .before .before in
     c .before .before .unpack-found .ensures
-    ∙ ap₂ (λ (l : Located) (m : Mask). readAt l (s .args .byte-order) m (s .args .uds-payload .now) (s .args .bit-pos) (s .args .output .now)) (c .before .before .before .before .pos-info-standard-len .ensures)
+    ∙ ap₂ (λ (l : Located) (m : Mask). readAt l (s .args .byte-order) m (s .args .payload .now) (s .args .bit-pos) (s .args .output .now)) (c .before .before .before .before .pos-info-standard-len .ensures)
     (ap₂ maskOf (c .before .before .before .before .before .before .mask-use .ensures) (c .before .before .before .before .before .placed-part .ensures))
-    ∙ standard-read (s .args .base-datatype) (s .args .byte-order) (s .args .standard .«bit_length» .0) (maskIn (s .args .store .now) (s .args .standard)) (s .args .uds-payload .now) (s .args .byte-pos) (s .args .bit-pos) (s .args .output .now)
+    ∙ standard-read (s .args .base-datatype) (s .args .byte-order) (s .args .standard .«bit_length» .0) (maskIn (s .args .store .now) (s .args .standard)) (s .args .payload .now) (s .args .byte-pos) (s .args .bit-pos) (s .args .output .now)
 
 pub decode-standard-len-spec : {M : Type 1} → statement M
 decode-standard-len-spec =

@@ -48,7 +48,7 @@ returns-3 c = rw (c .before .before .before .before .before .type-3 .given .1) (
 
 returns-4 : tie.Need-returns-4
 returns-4 c = let s = c .before .before .before .before .before in
-    rw (c .enum-told .given .1) (sym (refused-first paramFinding (length (s .args .uds-payload .now)) (s .args .output .now) 37 refl refl))
+    rw (c .enum-told .given .1) (sym (refused-first paramFinding (length (s .args .payload .now)) (s .args .output .now) 37 refl refl))
 
 pub decode-variant-spec : {M : Type 1} → statement M
 decode-variant-spec =

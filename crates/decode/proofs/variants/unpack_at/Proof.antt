@@ -24,7 +24,7 @@ bits-requires c κs = search needs
 
 returns : tie.Need-returns
 returns c = let s = c .before .before .before .before .before in
-    sym (no-bits (s .args .byte-order) (s .args .bit-len .0) (maskOf (s .args .mask-use) (s .args .mask .now)) (s .args .uds-payload .now) (s .args .start-pos) (s .args .bit-pos) (s .args .output .now) (sym (c .before .bits .ensures) ∙ c .if1 .taken))
+    sym (no-bits (s .args .byte-order) (s .args .bit-len .0) (maskOf (s .args .mask-use) (s .args .mask .now)) (s .args .payload .now) (s .args .start-pos) (s .args .bit-pos) (s .args .output .now) (sym (c .before .bits .ensures) ∙ c .if1 .taken))
 
 byte-count-requires : tie.Need-byte-count-requires
 byte-count-requires c κs = search needs
@@ -38,7 +38,7 @@ saturating-add-requires c κs = search needs
 returns-2 : tie.Need-returns-2
 returns-2 c = let s = c .before .before .before .before .before .before .before .before .before in
     let e = end-is (c .before) in
-    rw e (sym (too-short (s .args .byte-order) (s .args .bit-len .0) (maskOf (s .args .mask-use) (s .args .mask .now)) (s .args .uds-payload .now) (s .args .start-pos) (s .args .bit-pos) (s .args .output .now) (some (c .before .before .before .before)) (rw e at (c .if2 .taken))))
+    rw e (sym (too-short (s .args .byte-order) (s .args .bit-len .0) (maskOf (s .args .mask-use) (s .args .mask .now)) (s .args .payload .now) (s .args .start-pos) (s .args .bit-pos) (s .args .output .now) (some (c .before .before .before .before)) (rw e at (c .if2 .taken))))
 
 sub-unpack-data : tie.Need-sub-unpack-data
 sub-unpack-data c = search needs
@@ -61,9 +61,9 @@ returns-3 c = let s = c .before .before .before .before .before .before .before 
     let n = bytesFor (s .args .bit-len .0) in
     let inside = rw e at (c .before .before .before .before .before .if2 .left) in
     c .before .before .unpack-data .ensures
-    ∙ ap (λ (k : ℕ). answer (inCut (maskOf (s .args .mask-use) (s .args .mask .now)) (s .args .bit-len .0) (s .args .bit-pos) (ordered (s .args .byte-order) (cut (s .args .start-pos) k (s .args .uds-payload .now)))) 0 (s .args .output .now))
-    (ap (λ (k : ℕ). k - s .args .start-pos) e ∙ cut-end (s .args .uds-payload .now) (s .pre .1) (s .args .start-pos) n inside)
-    ∙ sym (in-payload (s .args .byte-order) (s .args .bit-len .0) (maskOf (s .args .mask-use) (s .args .mask .now)) (s .args .uds-payload .now) (s .args .start-pos) (s .args .bit-pos) (s .args .output .now) (s .pre .1) (some (c .before .before .before .before .before .before .before .before .before)) inside)
+    ∙ ap (λ (k : ℕ). answer (inCut (maskOf (s .args .mask-use) (s .args .mask .now)) (s .args .bit-len .0) (s .args .bit-pos) (ordered (s .args .byte-order) (cut (s .args .start-pos) k (s .args .payload .now)))) 0 (s .args .output .now))
+    (ap (λ (k : ℕ). k - s .args .start-pos) e ∙ cut-end (s .args .payload .now) (s .pre .1) (s .args .start-pos) n inside)
+    ∙ sym (in-payload (s .args .byte-order) (s .args .bit-len .0) (maskOf (s .args .mask-use) (s .args .mask .now)) (s .args .payload .now) (s .args .start-pos) (s .args .bit-pos) (s .args .output .now) (s .pre .1) (some (c .before .before .before .before .before .before .before .before .before)) inside)
 
 pub unpack-at-spec : {M : Type 1} → statement M
 unpack-at-spec =
