@@ -1,10 +1,10 @@
 -- The decode halves of document 01's bench cases, and corners beside them, as one table that the checker computes. Assumes nothing.
 use mathlib.Core.Path.{_≡_, refl}
-use mathlib.Core.Bool.{Bool, true, false, _&&_}
+use mathlib.Core.Bool.{Bool, true, false}
 use mathlib.Core.List.{List, [], _∷_, _++_}
 use Prim.Native.Nat.{ℕ}
 use lib.Count.{ones, onesIn}
-use lib.Dec.{eqb}
+use Rattle.kinds.proofs.Examples.{Example, hold, _is_}
 use Rattle.kinds.specs.declared.types.DataType.{DataType}
 use Rattle.kinds.specs.declared.types.DataType.the-variants.{UInt32, Float64, AsciiString, Unicode2String, ByteField}
 use Rattle.coded.specs.declared.variants.OptionalPlace.{OptionalPlace}
@@ -28,25 +28,6 @@ use Rattle.decode.specs.Finding.{fieldFinding, leadingFinding, minMaxFin
 use Rattle.decode.specs.Decode.{decoded}
 use Rattle.decode.specs.Runtime.{Lent, listed, runtimeRead}
 
--- what the definitions give, and what they should
-record Example : Type 0 where
-  gives : List ℕ
-  wanted : List ℕ
-
-abbrev equal : List ℕ → List ℕ → Bool
-equal [] [] = true
-equal [] (y ∷ ys) = false
-equal (x ∷ xs) [] = false
-equal (x ∷ xs) (y ∷ ys) = eqb x y && equal xs ys
-
-abbrev hold : List Example → Bool
-hold [] = true
-hold (e ∷ es) = equal (e .gives) (e .wanted) && hold es
-
-abbrev _is_ : List ℕ → List ℕ → Example
-_is_ xs ys = record { gives = xs; wanted = ys }
-
-infix 30 _is_
 -- coded types: a type, high-low or not, and a variant
 abbrev coded : DataType → Bool → DiagCodedTypeVariant → DiagCodedType
 coded t highLow v = record { «base_datatype» = t; «type_» = v; «is_high_low_byte_order» = highLow }

@@ -2,7 +2,7 @@
 ghost use mathlib.Core.Path.{_≡_};
 ghost use Prim.Native.Nat.{_≤_};
 ghost use lib.ListN.{length};
-ghost use Rattle.masks.specs.Mask.{maskOf};
+ghost use Rattle.masks.specs.Mask.{noMask, maskOf};
 ghost use Rattle.field.specs.Field.{maskIn, shapeOf};
 ghost use Rattle.positions.specs.Located.{locatedOf};
 ghost use Rattle.unpack.specs.Answers.{answer, answered};
@@ -87,7 +87,28 @@ fn unpack_found(
     }
 }
 
-// A byte type has bit position 0 here, since 20 refuses any other.
+// Data bytes have no mask, and bit position 0: they are of a byte type, for which 20 refuses any other.
+fn unpack_data_bytes(
+    pos_info: PosInfo,
+    payload: &[u8],
+    byte_order: ByteOrder,
+    output: &mut [u8],
+) -> Reading
+    requires { ⌜ length (now payload) ≤ 65535 ⌝ }
+    ensures { λ r. ⌜ answered r (now (output .exit)) ≡ readAt (locatedOf «pos_info») «byte_order» noMask (now (payload .entry)) 0 (now (output .entry)) ⌝ }
+{
+    let no_mask = &payload[..0];
+    unpack_found(
+        pos_info,
+        0,
+        MaskUse::Absent,
+        no_mask,
+        payload,
+        byte_order,
+        output,
+    )
+}
+
 fn decode_leading_len(
     base_datatype: DataType,
     bits: BitLength,
@@ -106,18 +127,9 @@ fn decode_leading_len(
         byte_order,
         bits,
     );
-    unpack_found(
-        pos_info,
-        0,
-        MaskUse::Absent,
-        &payload[..0],
-        payload,
-        byte_order,
-        output,
-    )
+    unpack_data_bytes(pos_info, payload, byte_order, output)
 }
 
-// A byte type has bit position 0 here, since 20 refuses any other.
 fn decode_min_max_len(
     base_datatype: DataType,
     limits: MinMaxLengthType,
@@ -129,21 +141,9 @@ fn decode_min_max_len(
     requires { ⌜ length (now payload) ≤ 65535 ⌝ }
     ensures { λ r. ⌜ answered r (now (output .exit)) ≡ answer (minMaxFinding «base_datatype» «byte_order» limits (now (payload .entry)) «byte_pos») (length (now (payload .entry))) (now (output .entry)) ⌝ }
 {
-    let pos_info = positions::pos_info_min_max_len(
-        base_datatype.is_unicode(),
-        payload,
-        byte_pos,
-        limits,
-    );
-    unpack_found(
-        pos_info,
-        0,
-        MaskUse::Absent,
-        &payload[..0],
-        payload,
-        byte_order,
-        output,
-    )
+    let is_unicode = base_datatype.is_unicode();
+    let pos_info = positions::pos_info_min_max_len(is_unicode, payload, byte_pos, limits);
+    unpack_data_bytes(pos_info, payload, byte_order, output)
 }
 
 fn decode_standard_len(

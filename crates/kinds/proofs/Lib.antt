@@ -1,5 +1,6 @@
--- `Compare` has the ways to take two numbers apart, `Rules` numbers that rules never give, and `Refused` the laws of the
--- table of refusals.
+-- `Compare` has the ways to take two numbers apart, `Rules` numbers that rules never give, `Refused` the laws of the table of refusals,
+-- and `Examples` tables that are computed.
 pub mod Compare
 pub mod Rules
 pub mod Refused
+pub mod Examples

@@ -1,11 +1,10 @@
 -- Worked examples of bits, order and masks, as one table that the checker computes. Letters are document 01's bench cases.
 -- Assumes nothing.
 use mathlib.Core.Path.{_≡_, refl}
-use mathlib.Core.Bool.{Bool, true, false, _&&_}
+use mathlib.Core.Bool.{true}
 use mathlib.Core.List.{List, [], _∷_}
-use Prim.Native.Nat.{ℕ}
 use lib.Count.{ones, onesIn}
-use lib.Dec.{eqb}
+use Rattle.kinds.proofs.Examples.{Example, hold, _is_}
 use Rattle.kinds.specs.declared.types.ByteOrder.the-variants.{ReorderPairs, Reverse}
 use Rattle.order.specs.Order.{ordered, swapPairs}
 use Rattle.bits.specs.Bits.{bit, bitAt, number, packed}
@@ -14,25 +13,6 @@ use Rattle.masks.specs.declared.plain.Kept.the-variants.{UnderOnes, Unde
 use Rattle.masks.specs.Plain.{maskBit, masked}
 use Rattle.masks.specs.Condensed.{frontBit, onesBelow, gathered, onesOf, condensedCount, condensed, replacement, replaced}
 
--- what the definitions give, and what they should
-record Example : Type 0 where
-  gives : List ℕ
-  wanted : List ℕ
-
-abbrev equal : List ℕ → List ℕ → Bool
-equal [] [] = true
-equal [] (y ∷ ys) = false
-equal (x ∷ xs) [] = false
-equal (x ∷ xs) (y ∷ ys) = eqb x y && equal xs ys
-
-abbrev hold : List Example → Bool
-hold [] = true
-hold (e ∷ es) = equal (e .gives) (e .wanted) && hold es
-
-abbrev _is_ : List ℕ → List ℕ → Example
-_is_ xs ys = record { gives = xs; wanted = ys }
-
-infix 30 _is_
 examples : List Example
 examples =
     -- b: 16 bits low-high; and three bytes of text of two bytes to a character

@@ -16,21 +16,18 @@ is-unicode-requires c κs = search needs
 pos-info-min-max-len-requires : tie.Need-pos-info-min-max-len-requires
 pos-info-min-max-len-requires c κs = search needs
 
-slice-aggregate-unpack-found : tie.Need-slice-aggregate-unpack-found
-slice-aggregate-unpack-found c = search needs
-
-unpack-found-requires : tie.Need-unpack-found-requires
-unpack-found-requires c κs = search needs
+unpack-data-bytes-requires : tie.Need-unpack-data-bytes-requires
+unpack-data-bytes-requires c κs = search needs
 
 same-length : tie.Need-same-length
 same-length c = search needs
 
 returns : tie.Need-returns
-returns c = let s = c .before .before .before .before .before .before .before .before .before in
-    c .before .before .unpack-found .ensures
+returns c = let s = c .before .before .before .before .before .before .before .before in
+    c .before .before .unpack-data-bytes .ensures
     ∙ ap (λ (l : Located). readAt l (s .args .byte-order) noMask (s .args .payload .now) 0 (s .args .output .now))
-    (c .before .before .before .before .before .pos-info-min-max-len .ensures ∙ ap (λ (u : Bool). minMaxPlace (s .args .limits) u (s .args .payload .now) (s .args .byte-pos)) (c .before .before .before .before .before .before .is-unicode .ensures))
-    ∙ min-max-read (s .args .base-datatype) (s .args .byte-order) (s .args .limits) (s .args .payload .now) (s .args .byte-pos) (s .pre) (λ j. c .before .before .before .before .before .before .before .before .shared-slice-known .given j .fits) (s .args .output .now)
+    (c .before .before .before .before .pos-info-min-max-len .ensures ∙ ap (λ (u : Bool). minMaxPlace (s .args .limits) u (s .args .payload .now) (s .args .byte-pos)) (c .before .before .before .before .before .is-unicode .ensures))
+    ∙ min-max-read (s .args .base-datatype) (s .args .byte-order) (s .args .limits) (s .args .payload .now) (s .args .byte-pos) (s .pre) (λ j. c .before .before .before .before .before .before .before .shared-slice-known .given j .fits) (s .args .output .now)
 
 pub decode-min-max-len-spec : {M : Type 1} → statement M
 decode-min-max-len-spec =
@@ -38,7 +35,6 @@ decode-min-max-len-spec =
     (tie.spec
     is-unicode-requires
     pos-info-min-max-len-requires
-    slice-aggregate-unpack-found
-    unpack-found-requires
+    unpack-data-bytes-requires
     same-length
     returns)
