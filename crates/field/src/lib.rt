@@ -1,13 +1,9 @@
 // A coded type with its store: the part of the store that it speaks of, and what is refused before a call's own rules.
 ghost use mathlib.Core.Path.{_≡_};
-ghost use mathlib.Core.Bool.{cond};
-ghost use mathlib.Core.List.{[]};
-ghost use lib.ListN.{length};
-ghost use lib.Dec.{eqb};
 ghost use Rattle.kinds.specs.Answers.{numberOfCheck};
-ghost use Rattle.coded.specs.Getters.{keyNameOf};
 ghost use Rattle.field.specs.Field.{outside, partOf, placed, useOf};
 ghost use Rattle.field.specs.Refusals.{sizesRefusal, placeOf, placeRefusal, callRefusal};
+ghost use Rattle.field.specs.Names.{named, keyName};
 use coded::DiagCodedType;
 use coded::DiagCodedTypeVariant;
 use coded::OptionalPlace;
@@ -129,8 +125,7 @@ pub fn validate_call(
 // The name of the parameter that gives the length, a part of the store, and the number beside it. The part is empty on a
 // refusal, and where there is no name: `length_key_place` tells that from an empty name.
 pub fn length_key_name<'a>(coded_type: DiagCodedType, store: &'a [u8], number: &mut u32) -> &'a [u8]
-    ensures { λ _. ⌜ now (number .exit) ≡ callRefusal «coded_type» (length (now (store .entry))) 0 0 ⌝ }
-    ensures { λ r. ⌜ now r ≡ cond (eqb (callRefusal «coded_type» (length (now (store .entry))) 0 0) 0) (placed (now (store .entry)) (keyNameOf («coded_type» .«type_»))) [] ⌝ }
+    ensures { λ r. ⌜ named (now (number .exit)) (now r) ≡ keyName «coded_type» (now (store .entry)) ⌝ }
 {
     match validate_call(coded_type, store.len(), 0, 0) {
         Check::Refused(refusal) => {

@@ -1,7 +1,10 @@
 -- `field::length_key_name` meets its contract. Assumes nothing.
 use mathlib.Core.Path.{sym, ap, _∙_}
 use Rattle.kinds.proofs.Refused.{never-0}
+use Prim.Native.Nat.{ℕ}
+use mathlib.Core.List.{[]}
 use Rattle.field.specs.Field.{placed}
+use Rattle.field.specs.Names.{named}
 use borrow.Author.Needs.{needs}
 use Rattle.field.proofs.length_key_name.Statement.{statement}
 use Rattle.field.proofs.length_key_name.Tie as tie
@@ -30,11 +33,11 @@ placed-part-requires c κs = search needs
 returns : tie.Need-returns
 returns c = let r = c .before .before .before .refusal .given in
     let n = rw (r .1) at (c .before .before .before .before .before .validate-call .ensures) in
-    (c .before .number .ensures ∙ n, rw (sym n, never-0 (r .0 .0)))
+    rw (sym n, never-0 (r .0 .0)) (ap (λ (k : ℕ). named k []) (c .before .number .ensures))
 
 returns-2 : tie.Need-returns-2
 returns-2 c = let n = sym (rw (c .before .before .enum-told .given .1) at (c .before .before .before .before .validate-call .ensures)) in
-    (sym n, rw n (c .placed-part .ensures ∙ ap (placed (c .before .before .before .before .before .before .args .store .now)) (c .before .length-key-place .ensures)))
+    rw n (ap (named 0) (c .placed-part .ensures ∙ ap (placed (c .before .before .before .before .before .before .args .store .now)) (c .before .length-key-place .ensures)))
 
 pub length-key-name-spec : {M : Type 1} → statement M
 length-key-name-spec =
