@@ -20,10 +20,10 @@ use Rattle.bits.proofs.Moves.{extracted-whole}
 use Rattle.masks.specs.Mask.{noMask}
 use Rattle.unpack.specs.Answers.{Finding, answer}
 use Rattle.unpack.specs.Unpacked.{unpacked}
-use Rattle.unpack.proofs.Answers.{fits, has-room}
+use Rattle.unpack.proofs.Answers.{fits, has-room, same-answer}
 use Rattle.decode.specs.Finding.{fieldFinding}
 use Rattle.decode.specs.Located.{readBits}
-use Rattle.decode.proofs.Places.{same-answer, length-cut, no-bits, some-bits, too-short}
+use Rattle.decode.proofs.Places.{length-cut, no-bits, some-bits, too-short}
 
 -- nothing turned is nothing
 ordered-none : (o : ByteOrder) → ordered o [] ≡ []

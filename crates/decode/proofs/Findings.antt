@@ -26,7 +26,7 @@ use Rattle.positions.specs.MinMax.{minMaxEnd, scanRefusal, endsWithZero, minMax
 use Rattle.positions.proofs.LengthField.{some-bits}
 use Rattle.positions.proofs.Scans.{end-le}
 use Rattle.unpack.specs.Answers.{Finding, answer}
-use Rattle.unpack.proofs.Answers.{refused-first}
+use Rattle.unpack.proofs.Answers.{refused-first, after-none, after-one, plain-report, refuses, same-answer}
 use Rattle.decode.specs.Finding.{fieldFinding, standardFinding, leadingFinding, minMaxFinding}
 use Rattle.decode.specs.Located.{readBits, readAt}
 use Rattle.decode.proofs.Places as Places
@@ -38,7 +38,7 @@ module _ (n expected actual start bits : ℕ) (o : ByteOrder) (mask : Mask) (pay
   found-read : n ≡ 0 → readAt (located n expected actual start bits) o mask payload pos output ≡ readBits o bits mask payload start pos output
   found-read z = rw z
 
-  not-found-read : (n ≡ 0 → ⊥) → readAt (located n expected actual start bits) o mask payload pos output ≡ Places.refuses (reportAt n expected actual) output
+  not-found-read : (n ≡ 0 → ⊥) → readAt (located n expected actual start bits) o mask payload pos output ≡ refuses (reportAt n expected actual) output
   not-found-read z = rw (ne-eqb n 0 z)
 
 -- ---- Standard
@@ -54,11 +54,11 @@ module _ (t : DataType) (o : ByteOrder) (len : ℕ) (mask : Mask) (payload : Lis
       (λ (z : lengthNumber ≡ 0).
       let s = some-bits t len z in
       let h : len ≡ 0 → ⊥ = λ (e : len ≡ 0). omega arith in
-      found-read lengthNumber 0 0 at len o mask payload pos output z ∙ Places.some-bits o len mask payload at pos output h ∙ sym (Places.after-none lengthNumber f (length payload) output z))
+      found-read lengthNumber 0 0 at len o mask payload pos output z ∙ Places.some-bits o len mask payload at pos output h ∙ sym (after-none lengthNumber f (length payload) output z))
       (λ (z : lengthNumber ≡ 0 → ⊥).
       not-found-read lengthNumber 0 0 at len o mask payload pos output z
-      ∙ ap (λ (r : Report). Places.refuses r output) (Places.plain-report lengthNumber 0 0 (f .expected) (length payload) (length-not-30 t len))
-      ∙ sym (Places.after-one lengthNumber f (length payload) output z))
+      ∙ ap (λ (r : Report). refuses r output) (plain-report lengthNumber 0 0 (f .expected) (length payload) (length-not-30 t len))
+      ∙ sym (after-one lengthNumber f (length payload) output z))
       (same lengthNumber 0)
 
 -- ---- Leading
@@ -88,7 +88,7 @@ module _ (t : DataType) (o : ByteOrder) (bits : ℕ) (payload : List ℕ) (at : 
       ⊎-elim
       (λ (z : number ≡ 0).
       found-read number dataEnd (length payload) start (8 * count) o noMask payload 0 output z ∙ read-data o payload few bytes start count dataEnd output (data-inside z)
-      ∙ Places.same-answer (dataFinding dataEnd o payload start count) (leadingFinding t o bits payload at) (length payload) (length payload) output (sym z) refl refl refl)
+      ∙ same-answer (dataFinding dataEnd o payload start count) (leadingFinding t o bits payload at) (length payload) (length payload) output (sym z) refl refl refl)
       (λ (z : number ≡ 0 → ⊥).
       not-found-read number dataEnd (length payload) start (8 * count) o noMask payload 0 output z
       ∙ sym (refused-first (leadingFinding t o bits payload at) (length payload) output number refl (ne-eqb number 0 z)))
@@ -143,7 +143,7 @@ module _ (t : DataType) (o : ByteOrder) (m : MinMaxLengthType) (payload : List �
 
     as-data : ltb at end && ltb (length payload) end ≡ false → answer (dataFinding end o payload at (end - at)) (length payload) output ≡ answer found (length payload) output
     unfolding minMaxFinding
-    as-data h = Places.same-answer (dataFinding end o payload at (end - at)) found (length payload) (length payload) output (sym (none-given h)) refl refl refl
+    as-data h = same-answer (dataFinding end o payload at (end - at)) found (length payload) (length payload) output (sym (none-given h)) refl refl refl
 
     passed : readBits o (8 * (end - at)) noMask payload at 0 output ≡ answer found (length payload) output
     passed =
@@ -152,7 +152,7 @@ module _ (t : DataType) (o : ByteOrder) (m : MinMaxLengthType) (payload : List �
         ⊎-elim
         (λ (l : length payload < end).
         past-data o payload few bytes at (end - at) output (λ (e : end - at ≡ 0). omega arith) (rw (whole-end h) l)
-        ∙ ap (λ (e : ℕ). Places.refuses (short e (length payload)) output) (whole-end h ∙ sym wanted)
+        ∙ ap (λ (e : ℕ). refuses (short e (length payload)) output) (whole-end h ∙ sym wanted)
         ∙ sym (refused-first found (length payload) output 30 (given (rw (lt-ltb at end h, lt-ltb (length payload) end l))) refl))
         (λ (l : end ≤ length payload).
         read-data o payload few bytes at (end - at) end output (rw (whole-end h) l) ∙ as-data (rw (lt-ltb at end h, le-ltb (length payload) end l)))
@@ -160,7 +160,7 @@ module _ (t : DataType) (o : ByteOrder) (m : MinMaxLengthType) (payload : List �
         (λ (h : end ≤ at). read-none o payload few bytes at (end - at) end output (omega arith) ∙ as-data (rw (le-ltb at end h)))
         (below at end)
 
-  refused-here : (refusal ≡ 0 → ⊥) → Places.refuses (reportAt refusal (cond fewer most end) (length payload)) output ≡ answer found (length payload) output
+  refused-here : (refusal ≡ 0 → ⊥) → refuses (reportAt refusal (cond fewer most end) (length payload)) output ≡ answer found (length payload) output
   unfolding minMaxFinding
   refused-here z = sym (refused-first found (length payload) output refusal (rw (ne-eqb refusal 0 z)) (ne-eqb refusal 0 z))
 
@@ -170,6 +170,6 @@ module _ (t : DataType) (o : ByteOrder) (m : MinMaxLengthType) (payload : List �
       (λ (z : refusal ≡ 0). found-read refusal most (length payload) at (8 * (end - at)) o noMask payload 0 output z ∙ passed z)
       (λ (z : refusal ≡ 0 → ⊥).
       not-found-read refusal most (length payload) at (8 * (end - at)) o noMask payload 0 output z
-      ∙ ap (λ (r : Report). Places.refuses r output) (few-bytes past fewer most end (length payload))
+      ∙ ap (λ (r : Report). refuses r output) (few-bytes past fewer most end (length payload))
       ∙ refused-here z)
       (same refusal 0)

@@ -10,7 +10,7 @@ use Rattle.kinds.specs.Rules.{orElse}
 use Rattle.kinds.proofs.Compare.{same}
 use Rattle.kinds.specs.Refusals.{bitPositionRefusal, bitLengthRefusal}
 
--- by these two a list of rules gives k if one of its numbers is k
+-- whether a list of rules gives k is told rule by rule, and where no number is k these two find that it does not
 pub eqb-cond : (b : Bool) (m n k : ℕ) → eqb (cond b m n) k ≡ cond b (eqb m k) (eqb n k)
 eqb-cond true m n k = refl
 eqb-cond false m n k = refl

@@ -21,7 +21,7 @@ unfoldable pub bigEndian : (ℕ → ℕ) → ℕ → ℕ
 bigEndian f zero = 0
 bigEndian f (suc n) = 256 * bigEndian f n + f n
 
--- it is read as one, two, three, four, or five to eight bytes
+-- a length field is read as one, two, three, four, or five to eight bytes, and is too wide where it has more
 abbrev pub lengthInfo : List ℕ → LengthInfo
 lengthInfo xs = cond (eqb (length xs) 0 || ltb 8 (length xs)) TooWide (Bytes (record { 0 = bigEndian (λ j. getD xs j 0) (length xs) }))
 
