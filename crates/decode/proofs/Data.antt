@@ -23,7 +23,7 @@ use Rattle.unpack.specs.Unpacked.{unpacked}
 use Rattle.unpack.proofs.Answers.{fits, has-room, same-answer}
 use Rattle.decode.specs.Finding.{fieldFinding}
 use Rattle.decode.specs.Located.{readBits}
-use Rattle.decode.proofs.Places.{length-cut, no-bits, some-bits, too-short}
+use Rattle.decode.proofs.Places.{length-cut, no-bits, bits-there, too-short}
 
 -- nothing turned is nothing
 ordered-none : (o : ByteOrder) → ordered o [] ≡ []
@@ -73,7 +73,7 @@ module _ (o : ByteOrder) (payload : List ℕ) (few : length payload ≤ 65535) (
   read-data n expected output s =
       ⊎-elim (λ (z : n ≡ 0). read-none n expected output z)
       (λ (h : n ≡ 0 → ⊥).
-      some-bits o (8 * n) noMask payload start 0 output (λ (e : 8 * n ≡ 0). h (omega arith))
+      bits-there o (8 * n) noMask payload start 0 output (λ (e : 8 * n ≡ 0). h (omega arith))
       ∙ same-answer (fieldFinding o (8 * n) noMask payload start 0) (dataFinding expected o payload start n) (length payload) (length payload) output (none n s) (same-bits n) (taken n s) (rw (none n s)))
       (same n 0)
 

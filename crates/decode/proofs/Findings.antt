@@ -26,10 +26,10 @@ use Rattle.positions.specs.MinMax.{minMaxEnd, scanRefusal, endsWithZero, minMax
 use Rattle.positions.proofs.LengthField.{some-bits}
 use Rattle.positions.proofs.Scans.{end-le}
 use Rattle.unpack.specs.Answers.{Finding, answer}
-use Rattle.unpack.proofs.Answers.{refused-first, after-none, after-one, plain-report, refuses, same-answer}
+use Rattle.unpack.proofs.Answers.{refused-first, after-none, after-one, plain-report, leaving, same-answer}
 use Rattle.decode.specs.Finding.{fieldFinding, standardFinding, leadingFinding, minMaxFinding}
 use Rattle.decode.specs.Located.{readBits, readAt}
-use Rattle.decode.proofs.Places as Places
+use Rattle.decode.proofs.Places.{bits-there}
 use Rattle.decode.proofs.Data.{dataFinding, read-none, read-data, past-data}
 
 -- ---- a place that was found, and one that was not
@@ -38,7 +38,7 @@ module _ (n expected actual start bits : ℕ) (o : ByteOrder) (mask : Mask) (pay
   found-read : n ≡ 0 → readAt (located n expected actual start bits) o mask payload pos output ≡ readBits o bits mask payload start pos output
   found-read z = rw z
 
-  not-found-read : (n ≡ 0 → ⊥) → readAt (located n expected actual start bits) o mask payload pos output ≡ refuses (reportAt n expected actual) output
+  not-found-read : (n ≡ 0 → ⊥) → readAt (located n expected actual start bits) o mask payload pos output ≡ leaving (reportAt n expected actual) output
   not-found-read z = rw (ne-eqb n 0 z)
 
 -- ---- Standard
@@ -54,10 +54,10 @@ module _ (t : DataType) (o : ByteOrder) (len : ℕ) (mask : Mask) (payload : Lis
       (λ (z : lengthNumber ≡ 0).
       let s = some-bits t len z in
       let h : len ≡ 0 → ⊥ = λ (e : len ≡ 0). omega arith in
-      found-read lengthNumber 0 0 at len o mask payload pos output z ∙ Places.some-bits o len mask payload at pos output h ∙ sym (after-none lengthNumber f (length payload) output z))
+      found-read lengthNumber 0 0 at len o mask payload pos output z ∙ bits-there o len mask payload at pos output h ∙ sym (after-none lengthNumber f (length payload) output z))
       (λ (z : lengthNumber ≡ 0 → ⊥).
       not-found-read lengthNumber 0 0 at len o mask payload pos output z
-      ∙ ap (λ (r : Report). refuses r output) (plain-report lengthNumber 0 0 (f .expected) (length payload) (length-not-30 t len))
+      ∙ ap (λ (r : Report). leaving r output) (plain-report lengthNumber 0 0 (f .expected) (length payload) (length-not-30 t len))
       ∙ sym (after-one lengthNumber f (length payload) output z))
       (same lengthNumber 0)
 
@@ -115,8 +115,8 @@ module _ (t : DataType) (o : ByteOrder) (m : MinMaxLengthType) (payload : List �
   abbrev fewer : Bool
   fewer = ltb (end - at) (m .«min_length»)
 
-  abbrev most : ℕ
-  most = sum at (m .«min_length»)
+  abbrev leastEnd : ℕ
+  leastEnd = sum at (m .«min_length»)
 
   abbrev found : Finding
   found = minMaxFinding t o m payload at
@@ -152,7 +152,7 @@ module _ (t : DataType) (o : ByteOrder) (m : MinMaxLengthType) (payload : List �
         ⊎-elim
         (λ (l : length payload < end).
         past-data o payload few bytes at (end - at) output (λ (e : end - at ≡ 0). omega arith) (rw (whole-end h) l)
-        ∙ ap (λ (e : ℕ). refuses (short e (length payload)) output) (whole-end h ∙ sym wanted)
+        ∙ ap (λ (e : ℕ). leaving (short e (length payload)) output) (whole-end h ∙ sym wanted)
         ∙ sym (refused-first found (length payload) output 30 (given (rw (lt-ltb at end h, lt-ltb (length payload) end l))) refl))
         (λ (l : end ≤ length payload).
         read-data o payload few bytes at (end - at) end output (rw (whole-end h) l) ∙ as-data (rw (lt-ltb at end h, le-ltb (length payload) end l)))
@@ -160,16 +160,16 @@ module _ (t : DataType) (o : ByteOrder) (m : MinMaxLengthType) (payload : List �
         (λ (h : end ≤ at). read-none o payload few bytes at (end - at) end output (omega arith) ∙ as-data (rw (le-ltb at end h)))
         (below at end)
 
-  refused-here : (refusal ≡ 0 → ⊥) → refuses (reportAt refusal (cond fewer most end) (length payload)) output ≡ answer found (length payload) output
+  refused-here : (refusal ≡ 0 → ⊥) → leaving (reportAt refusal (cond fewer leastEnd end) (length payload)) output ≡ answer found (length payload) output
   unfolding minMaxFinding
   refused-here z = sym (refused-first found (length payload) output refusal (rw (ne-eqb refusal 0 z)) (ne-eqb refusal 0 z))
 
   pub min-max-read : readAt (minMaxPlace m (isUnicode t) payload at) o noMask payload 0 output ≡ answer found (length payload) output
   min-max-read =
       ⊎-elim
-      (λ (z : refusal ≡ 0). found-read refusal most (length payload) at (8 * (end - at)) o noMask payload 0 output z ∙ passed z)
+      (λ (z : refusal ≡ 0). found-read refusal leastEnd (length payload) at (8 * (end - at)) o noMask payload 0 output z ∙ passed z)
       (λ (z : refusal ≡ 0 → ⊥).
-      not-found-read refusal most (length payload) at (8 * (end - at)) o noMask payload 0 output z
-      ∙ ap (λ (r : Report). refuses r output) (few-bytes past fewer most end (length payload))
+      not-found-read refusal leastEnd (length payload) at (8 * (end - at)) o noMask payload 0 output z
+      ∙ ap (λ (r : Report). leaving r output) (few-bytes past fewer leastEnd end (length payload))
       ∙ refused-here z)
       (same refusal 0)

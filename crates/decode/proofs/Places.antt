@@ -34,16 +34,16 @@ module _ (o : ByteOrder) (bits : ℕ) (mask : Mask) (payload : List ℕ) (start 
   unfolding readBits
   no-bits e = rw e
 
-  pub some-bits : (bits ≡ 0 → ⊥) → readBits o bits mask payload start pos output ≡ answer (fieldFinding o bits mask payload start pos) (length payload) output
+  pub bits-there : (bits ≡ 0 → ⊥) → readBits o bits mask payload start pos output ≡ answer (fieldFinding o bits mask payload start pos) (length payload) output
   unfolding readBits
-  some-bits h = rw (ne-eqb bits 0 h)
+  bits-there h = rw (ne-eqb bits 0 h)
 
   -- 30, with the end needed
   pub too-short : (bits ≡ 0 → ⊥) → length payload < sum start (bytesFor bits)
       → readBits o bits mask payload start pos output ≡ record { report = short (sum start (bytesFor bits)) (length payload); output = output }
   unfolding fieldFinding
   too-short h s =
-      some-bits h ∙ refused-first (fieldFinding o bits mask payload start pos) (length payload) output 30 (rw (lt-ltb (length payload) (sum start (bytesFor bits)) s)) refl
+      bits-there h ∙ refused-first (fieldFinding o bits mask payload start pos) (length payload) output 30 (rw (lt-ltb (length payload) (sum start (bytesFor bits)) s)) refl
 
   -- the cut is in the payload
   pub in-payload : length payload ≤ 65535 → (bits ≡ 0 → ⊥) → sum start (bytesFor bits) ≤ length payload
@@ -51,7 +51,7 @@ module _ (o : ByteOrder) (bits : ℕ) (mask : Mask) (payload : List ℕ) (start 
   unfolding fieldFinding
   in-payload few h s =
       let c : length (ordered o (cut start (bytesFor bits) payload)) ≡ bytesFor bits = length-ordered o (cut start (bytesFor bits) payload) ∙ length-cut payload few start (bytesFor bits) s in
-      some-bits h
+      bits-there h
       ∙ same-answer (fieldFinding o bits mask payload start pos) (inCut mask bits pos (ordered o (cut start (bytesFor bits) payload))) (length payload) 0 output
       (rw (le-ltb (length payload) (sum start (bytesFor bits)) s) (ap (unpackRefusal bits pos) (sym c))) refl refl
       (rw (le-ltb (length payload) (sum start (bytesFor bits)) s) (unpack-not-30 bits pos (bytesFor bits)))

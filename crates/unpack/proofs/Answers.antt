@@ -48,15 +48,13 @@ after-one n f actual output h =
     let z = ne-eqb n 0 h in
     refused-first (after n f) actual output n (rw z) z
 
-abbrev pub refuses : Report → List ℕ → Decoded
-refuses r output = record { report = r; output = output }
+-- an answer that reports r and leaves this output
+abbrev pub leaving : Report → List ℕ → Decoded
+leaving r output = record { report = r; output = output }
 
 -- 30 alone reports more than its number
 pub plain-report : (n e a e′ a′ : ℕ) → eqb n 30 ≡ false → reportAt n e a ≡ reportAt n e′ a′
 plain-report n e a e′ a′ h = rw h
-
-abbrev gave : ℕ → ℕ → List ℕ → Decoded
-gave bits n output = record { report = read bits n; output = output }
 
 -- where the number is not 30 it does not matter what 30 would say
 pub same-answer : (f g : Finding) (a b : ℕ) (output : List ℕ) → f .number ≡ g .number → f .bits ≡ g .bits → f .bytes ≡ g .bytes → eqb (f .number) 30 ≡ false
@@ -67,12 +65,12 @@ same-answer f g a b output en eb ex h =
     let w : g .number ≡ 0 = sym en ∙ z in
     let k = length (g .bytes) in
     ⊎-elim (λ l. lacks-room f a output z k (ap length ex) l ∙ sym (lacks-room g b output w k refl l))
-    (λ l. has-room f a output z k (ap length ex) l ∙ ap₂ (λ (n : ℕ) (xs : List ℕ). gave n k (xs ++ drop k output)) eb ex ∙ sym (has-room g b output w k refl l))
+    (λ l. has-room f a output z k (ap length ex) l ∙ ap₂ (λ (n : ℕ) (xs : List ℕ). leaving (read n k) (xs ++ drop k output)) eb ex ∙ sym (has-room g b output w k refl l))
     (below (length output) k))
     (λ (z : f .number ≡ 0 → ⊥).
     let q = ne-eqb (f .number) 0 z in
     refused-first f a output (f .number) refl q
-    ∙ ap (λ (r : Report). refuses r output) (plain-report (f .number) (f .expected) a (g .expected) b h)
+    ∙ ap (λ (r : Report). leaving r output) (plain-report (f .number) (f .expected) a (g .expected) b h)
     ∙ sym (refused-first g b output (f .number) (sym en) q))
     (same (f .number) 0)
 
@@ -80,7 +78,7 @@ same-answer f g a b output en eb ex h =
 pub handed-answer : (r : Refusal) (n : ℕ) (f : Finding) (actual : ℕ) (output : List ℕ) → numberOf r ≡ n → eqb n 30 ≡ false → answered (Refused r) output ≡ answer (after n f) actual output
 handed-answer r n f actual output e h =
     let z : n ≡ 0 → ⊥ = λ w. eqb-false (numberOf r) 0 (never-0 r) (e ∙ w) in
-    ap (λ (x : Report). refuses x output) (reported r (f .expected) actual (rw e h) ∙ ap (λ (k : ℕ). reportAt k (f .expected) actual) e) ∙ sym (after-one n f actual output z)
+    ap (λ (x : Report). leaving x output) (reported r (f .expected) actual (rw e h) ∙ ap (λ (k : ℕ). reportAt k (f .expected) actual) e) ∙ sym (after-one n f actual output z)
 
 -- an answer that is read off the code's values: the counts are those found, and the output has the bytes in front
 pub by-room : {d : Decoded} (b : BitLength) (k : ByteCount) (output : List ℕ) (n bits : ℕ) (bytes xs : List ℕ) → n ≡ k .0 → bits ≡ b .0 → xs ≡ bytes

@@ -88,8 +88,8 @@ fn apply_condensed_mask_unpacking(
 {
     let size = masks::condensed_size(mask, bit_len);
     let byte_count = size.byte_count;
-    let count = byte_count.bytes();
-    if output.len() < count {
+    let kept = byte_count.bytes();
+    if output.len() < kept {
         return Reading::Refused(Refusal::OutputLacksRoom);
     }
     masks::gather_bits(
@@ -98,7 +98,7 @@ fn apply_condensed_mask_unpacking(
         byte_order,
         bit_pos,
         bit_len,
-        &mut output[..count],
+        &mut output[..kept],
     );
     let bit_count = size.bit_count;
     Reading::Read {
