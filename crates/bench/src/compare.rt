@@ -1,7 +1,8 @@
-// What a reading answers, beside what it should: number, bit count, byte count, expected and actual, and every byte.
+// What a reading or a writing answers, beside what it should: number, bit count, byte count, expected and actual, and every byte.
 use coded::Built;
 use kinds::ByteCount;
 use kinds::Report;
+use kinds::Writing;
 
 pub fn gave(bit_count: usize, byte_count: usize) -> [usize; 5] {
     [0, bit_count, byte_count, 0, 0]
@@ -96,6 +97,73 @@ pub fn lends(
                 return check::same(lent, part);
             }
             false
+        }
+    }
+}
+
+// Whether a writing reports what it should, leaves so many bytes used, and leaves the payload so.
+fn wrote(
+    writing: Writing,
+    used: usize,
+    uds_payload: &[u8],
+    number: usize,
+    used_after: usize,
+    after: &[u8],
+) -> bool {
+    if !same_numbers(numbers(writing.report()), refused(number)) {
+        return false;
+    }
+    if used != used_after {
+        return false;
+    }
+    check::same(uds_payload, after)
+}
+
+// Whether an encode at byte 0 answers with a number, 0 for success, and leaves the payload and its used length so.
+pub fn writes(
+    built: Built,
+    store: &[u8],
+    input_data: &[u8],
+    uds_payload: &mut [u8],
+    used: usize,
+    bit_pos: usize,
+    number: usize,
+    used_after: usize,
+    after: &[u8],
+) -> bool {
+    match built {
+        Built::Refused(_) => false,
+        Built::Made(coded_type) => {
+            let mut end = used;
+            let writing = encode::encode(
+                coded_type,
+                store,
+                input_data,
+                uds_payload,
+                &mut end,
+                0,
+                bit_pos,
+            );
+            wrote(writing, end, uds_payload, number, used_after, after)
+        }
+    }
+}
+
+// Whether a clear at byte 0 of a payload that is used whole answers with a number and leaves the payload so.
+pub fn clears(
+    built: Built,
+    store: &[u8],
+    uds_payload: &mut [u8],
+    bit_pos: usize,
+    number: usize,
+    after: &[u8],
+) -> bool {
+    match built {
+        Built::Refused(_) => false,
+        Built::Made(coded_type) => {
+            let used = uds_payload.len();
+            let writing = encode::clear(coded_type, store, uds_payload, used, 0, bit_pos);
+            wrote(writing, used, uds_payload, number, used, after)
         }
     }
 }

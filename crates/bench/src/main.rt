@@ -1,7 +1,8 @@
-// Runs document 01's bench cases and prints a line for each: letter, space, `same` or `differs`. So far the halves that read.
+// Runs document 01's bench cases and prints a line for each: letter, space, `same` or `differs`.
 mod fields; // fields.rt: the fields of the cases
-mod compare; // compare.rt: what a reading answers beside what it should
-mod reading; // reading.rt: the cases
+mod compare; // compare.rt: what is answered beside what should be
+mod reading; // reading.rt: the cases that read
+mod writing; // writing.rt: the cases that write
 
 fn show(letter: u8, same: bool) {
     let head = [letter, b' '];
@@ -13,19 +14,31 @@ fn show(letter: u8, same: bool) {
     }
 }
 
+// A case with parts that read and parts that write.
+fn show_both(letter: u8, reads: bool, writes: bool) {
+    if reads {
+        show(letter, writes);
+    } else {
+        show(letter, false);
+    }
+}
+
 fn main() {
     show(b'a', reading::case_a());
     show(b'b', reading::case_b());
     show(b'c', reading::case_c());
-    show(b'd', reading::case_d());
+    show_both(b'd', reading::case_d(), writing::case_d());
+    show(b'e', writing::case_e());
+    show(b'f', writing::case_f());
     show(b'g', reading::case_g());
     show(b'h', reading::case_h());
-    show(b'i', reading::case_i());
-    show(b'j', reading::case_j());
-    show(b'k', reading::case_k());
+    show_both(b'i', reading::case_i(), writing::case_i());
+    show_both(b'j', reading::case_j(), writing::case_j());
+    show_both(b'k', reading::case_k(), writing::case_k());
     show(b'l', reading::case_l());
-    show(b'm', reading::case_m());
+    show_both(b'm', reading::case_m(), writing::case_m());
     show(b'n', reading::case_n());
     show(b'o', reading::case_o());
-    show(b'p', reading::case_p());
+    show_both(b'p', reading::case_p(), writing::case_p());
+    show(b'q', writing::case_q());
 }

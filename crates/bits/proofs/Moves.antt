@@ -3,7 +3,7 @@ use mathlib.Core.Path.{_≡_, sym, ap, _∙_}
 use mathlib.Core.Logic.{_⊎_, ⊎-elim}
 use mathlib.Core.Bool.{Bool, true, false, cond, _&&_}
 use mathlib.Core.List.{List}
-use Prim.Native.Nat.{ℕ, _+_, _-_, _*_, _≤_, _<_, min}
+use Prim.Native.Nat.{ℕ, _+_, _-_, _*_, _≤_, _<_, max}
 use native.Mathlib.Omega.{arith}
 use native.Mathlib.Nat.{zero-add}
 use lib.ListN.{length}
@@ -14,7 +14,7 @@ use Rattle.kinds.proofs.Compare.{below}
 use Rattle.bits.specs.Bits.{bitAt, packed}
 use Rattle.bits.specs.Moves.{first, from, raised, either, extracted, injected, within, overlaid}
 use Rattle.bits.proofs.Numbers.{Bits}
-use Rattle.bits.proofs.Bytes.{Bytes, bitAt-lt, bitAt-out, bitAt-packed, length-packed, packed-ext, repack}
+use Rattle.bits.proofs.Bytes.{Bytes, bitAt-lt, bitAt-packed, length-packed, packed-ext, repack}
 
 -- ---- they give bits
 
@@ -39,6 +39,10 @@ first-in n f k h = rw (lt-ltb k n h)
 pub first-out : (n : ℕ) (f : ℕ → ℕ) (k : ℕ) → n ≤ k → first n f k ≡ 0
 first-out n f k h = rw (le-ltb k n h)
 
+pub first-ext : (n : ℕ) (f g : ℕ → ℕ) → ((i : ℕ) → i < n → f i ≡ g i) → (k : ℕ) → first n f k ≡ first n g k
+first-ext n f g e k =
+    ⊎-elim (λ l. ap (λ (x : ℕ). cond (ltb k n) x 0) (e k l)) (λ l. first-out n f k l ∙ sym (first-out n g k l)) (below k n)
+
 -- one bit more changes that place alone
 pub ltb-other : (i k : ℕ) → (k ≡ i → ⊥) → ltb k i ≡ ltb k (i + 1)
 ltb-other i k n =
@@ -46,16 +50,6 @@ ltb-other i k n =
 
 pub first-other : (f : ℕ → ℕ) (i k : ℕ) → (k ≡ i → ⊥) → first i f k ≡ first (i + 1) f k
 first-other f i k n = ap (λ (t : Bool). cond t (f k) 0) (ltb-other i k n)
-
--- past their end bytes have no bits
-pub first-min : (n : ℕ) (xs : List ℕ) (k : ℕ) → first (min n (length xs * 8)) (bitAt xs) k ≡ first n (bitAt xs) k
-first-min n xs k =
-    ⊎-elim
-    (λ l. ⊎-elim (λ m. first-in (min n (length xs * 8)) (bitAt xs) k (omega arith) ∙ sym (first-in n (bitAt xs) k l))
-    (λ m. first-out (min n (length xs * 8)) (bitAt xs) k (omega arith) ∙ sym (first-in n (bitAt xs) k l ∙ bitAt-out xs k (omega arith)))
-    (below k (length xs * 8)))
-    (λ l. first-out (min n (length xs * 8)) (bitAt xs) k (omega arith) ∙ sym (first-out n (bitAt xs) k l))
-    (below k n)
 
 -- ---- bits moved up
 
@@ -115,3 +109,10 @@ extracted-whole xs n h e =
     ap (λ (k : ℕ). packed k (first (8 * n) (from 0 (bitAt xs)))) all
     ∙ packed-ext (length xs) (first (8 * n) (from 0 (bitAt xs))) (bitAt xs) (λ i l. first-in (8 * n) (from 0 (bitAt xs)) i (omega arith) ∙ ap (bitAt xs) (zero-add i))
     ∙ repack xs h
+
+-- the bits that are ORed in are all that matter of a source
+pub injected-ext : (len pos : ℕ) (f g : ℕ → ℕ) (xs : List ℕ) → ((i : ℕ) → i < len → f i ≡ g i) → injected len pos f xs ≡ injected len pos g xs
+unfolding injected
+injected-ext len pos f g xs e =
+    packed-ext (length xs) (either (bitAt xs) (raised pos (first len f))) (either (bitAt xs) (raised pos (first len g))) (λ k l.
+    ap (max (bitAt xs k)) (raised-ext pos (first len f) (first len g) k (λ m. first-ext len f g e (k - pos))))

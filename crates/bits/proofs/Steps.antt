@@ -3,7 +3,7 @@ use mathlib.Core.Path.{_≡_, sym, ap, _∙_}
 use mathlib.Core.Logic.{_⊎_, ⊎-elim}
 use mathlib.Core.Bool.{Bool, true, false, cond}
 use mathlib.Core.List.{List}
-use Prim.Native.Nat.{ℕ, _+_, _-_, _*_, _%_, _≤_, _<_, min, max}
+use Prim.Native.Nat.{ℕ, _+_, _-_, _*_, _%_, _≤_, _<_, max}
 use native.Mathlib.Omega.{arith}
 use lib.ListN.{length, replicate}
 use borrow.Author.Tests.{lt-ltb, eq-eqb, ne-eqb}
@@ -12,7 +12,7 @@ use Rattle.bits.specs.Bits.{bitAt, packed, update, orBit}
 use Rattle.bits.specs.Moves.{first, raised, either, injected, within, overlaid}
 use Rattle.bits.proofs.Numbers.{Bits}
 use Rattle.bits.proofs.Bytes.{Bytes, bitAt-lt, bitAt-packed, length-packed, packed-ext, packed-zero, repack}
-use Rattle.bits.proofs.Moves.{bits-cond, bits-first, bits-raised, bits-either, first-in, first-out, first-other, first-min, raised-in, raised-ext, raised-zero, within-in, within-none, within-other}
+use Rattle.bits.proofs.Moves.{bits-cond, bits-first, bits-raised, bits-either, first-in, first-out, first-other, raised-in, raised-ext, raised-zero, within-in, within-none, within-other}
 
 -- ---- one bit
 
@@ -67,13 +67,6 @@ injected-step pos i source xs ys b e =
     (bits-either (bitAt xs) (raised pos (first i source)) (bitAt-lt xs) (bits-raised pos (first i source) (bits-first i source b))) (b i) e
     (λ k q. ap (max (bitAt xs k)) (raised-ext pos (first i source) (first (i + 1) source) k (λ m. first-other source i (k - pos) (λ z. q (omega arith)))))
     (omega arith)
-
--- the bits of the source up to its end are all that are ORed in
-pub injected-min : (n pos : ℕ) (src xs : List ℕ) → injected (min n (length src * 8)) pos (bitAt src) xs ≡ injected n pos (bitAt src) xs
-unfolding injected
-injected-min n pos src xs =
-    packed-ext (length xs) (either (bitAt xs) (raised pos (first (min n (length src * 8)) (bitAt src)))) (either (bitAt xs) (raised pos (first n (bitAt src)))) (λ k l.
-    ap (max (bitAt xs k)) (raised-ext pos (first (min n (length src * 8)) (bitAt src)) (first n (bitAt src)) k (λ m. first-min n src (k - pos))))
 
 -- ---- bits put in place of others
 

@@ -1,4 +1,4 @@
-// Bits of bytes: one bit read or set, a run of bits taken out of bytes, and a run of bits ORed into bytes.
+// Bits of bytes: one bit read or set, and a run of bits taken out of bytes.
 ghost use mathlib.Core.Path.{_≡_};
 ghost use Prim.Native.Nat.{_+_, _*_, _<_, _≤_};
 ghost use lib.ListN.{length, replicate};
@@ -6,7 +6,7 @@ ghost use lib.Dec.{ltb};
 ghost use Rattle.kinds.specs.Types.{bytesFor};
 ghost use Rattle.order.specs.Order.{ordered};
 ghost use Rattle.bits.specs.Bits.{bitAt, orBit, orBitChecked};
-ghost use Rattle.bits.specs.Moves.{extracted, injected};
+ghost use Rattle.bits.specs.Moves.{extracted};
 use kinds::BitLength;
 use kinds::ByteOrder;
 
@@ -90,19 +90,5 @@ pub fn extract_bits(
     for i in 0..bit_len.bits() {
         let bit_value = ordered_bit_at(data, byte_order, bit_pos + i);
         set_bit_at(result_bytes, i, bit_value, false);
-    }
-}
-
-// ORs bits of the source into the destination from a bit position on. Past its end the source has zeros.
-pub fn inject_bits(bit_len: BitLength, bit_pos: usize, dst_data: &mut [u8], source_data: &[u8])
-    requires { ⌜ length (now «source_data») ≤ 65535 ⌝ }
-    requires { ⌜ length (now «dst_data») ≤ 65535 ⌝ }
-    requires { ⌜ «bit_pos» + «bit_len» .0 ≤ 8 * length (now «dst_data») ⌝ }
-    ensures { λ _. ⌜ now («dst_data» .exit) ≡ injected («bit_len» .0) «bit_pos» (bitAt (now («source_data» .entry))) (now («dst_data» .entry)) ⌝ }
-{
-    let count = bit_len.at_most(source_data.len() * 8);
-    for i in 0..count.bits() {
-        let bit_value = bit_at(source_data, i);
-        set_bit_at(dst_data, bit_pos + i, bit_value, false);
     }
 }

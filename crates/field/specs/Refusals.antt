@@ -32,9 +32,21 @@ abbrev pub placeRefusal : OptionalPlace → ℕ → ℕ
 placeRefusal (At p) store = firstOf (rule (outside p store) 42 ∷ [])
 placeRefusal Absent store = 0
 
+-- 42, then 12, 13, 10, 11
+abbrev pub describedRefusal : DiagCodedType → ℕ → ℕ
+describedRefusal t store = orElse (placeRefusal (placeOf (t .«type_»)) store) (madeRefusal t)
+
 -- 43, 42, then 12, 13, 10, 11
 abbrev pub callRefusal : DiagCodedType → ℕ → ℕ → ℕ → ℕ
-callRefusal t store a b =
-    orElse (sizesRefusal store a b)
-    (orElse (placeRefusal (placeOf (t .«type_»)) store)
-    (madeRefusal t))
+callRefusal t store a b = orElse (sizesRefusal store a b) (describedRefusal t store)
+
+-- 44: used length above the slice
+abbrev pub usedRefusal : ℕ → ℕ → ℕ
+usedRefusal payload used = firstOf (rule (ltb payload used) 44 ∷ [])
+
+-- 43, 44, 42, then 12, 13, 10, 11: of a call that writes to a payload, with an input beside it
+abbrev pub writeCallRefusal : DiagCodedType → ℕ → ℕ → ℕ → ℕ → ℕ
+writeCallRefusal t store input payload used =
+    orElse (sizesRefusal store input payload)
+    (orElse (usedRefusal payload used)
+    (describedRefusal t store))

@@ -2,7 +2,7 @@
 ghost use mathlib.Core.Path.{_≡_};
 ghost use Rattle.kinds.specs.Answers.{numberOfCheck};
 ghost use Rattle.field.specs.Field.{outside, partOf, placed, useOf};
-ghost use Rattle.field.specs.Refusals.{sizesRefusal, placeOf, placeRefusal, callRefusal};
+ghost use Rattle.field.specs.Refusals.{sizesRefusal, placeOf, placeRefusal, describedRefusal, callRefusal, writeCallRefusal};
 ghost use Rattle.field.specs.Names.{named, keyName};
 use coded::DiagCodedType;
 use coded::DiagCodedTypeVariant;
@@ -102,8 +102,19 @@ fn validate_place(place: OptionalPlace, store_len: usize) -> Check
     }
 }
 
-// 43, 42, 12, 13, 10 and 11: what every call that takes a coded type refuses first, however the coded type was made. The call
-// lends a store and two other slices; where it lends one, the other counts 0 bytes.
+// 42, 12, 13, 10 and 11, however the coded type was made.
+fn validate_description(coded_type: DiagCodedType, store_len: usize) -> Check
+    ensures { λ r. ⌜ numberOfCheck r ≡ describedRefusal «coded_type» «store_len» ⌝ }
+{
+    let type_ = coded_type.type_;
+    match validate_place(place_of(type_), store_len) {
+        Check::Refused(refusal) => Check::Refused(refusal),
+        Check::Passed => coded_type.validate(),
+    }
+}
+
+// 43, 42, 12, 13, 10 and 11: what every call that takes a coded type refuses first. The call lends a store and two other
+// slices; where it lends one, the other counts 0 bytes.
 pub fn validate_call(
     coded_type: DiagCodedType,
     store_len: usize,
@@ -112,13 +123,30 @@ pub fn validate_call(
 ) -> Check
     ensures { λ r. ⌜ numberOfCheck r ≡ callRefusal «coded_type» «store_len» «first_len» «second_len» ⌝ }
 {
-    let type_ = coded_type.type_;
     match validate_sizes(store_len, first_len, second_len) {
         Check::Refused(refusal) => Check::Refused(refusal),
-        Check::Passed => match validate_place(place_of(type_), store_len) {
-            Check::Refused(refusal) => Check::Refused(refusal),
-            Check::Passed => coded_type.validate(),
-        },
+        Check::Passed => validate_description(coded_type, store_len),
+    }
+}
+
+// The same with 44 after 43, of a call that writes to a payload of which so many bytes are used.
+pub fn validate_write_call(
+    coded_type: DiagCodedType,
+    store_len: usize,
+    input_len: usize,
+    payload_len: usize,
+    used: usize,
+) -> Check
+    ensures { λ r. ⌜ numberOfCheck r ≡ writeCallRefusal «coded_type» «store_len» «input_len» «payload_len» used ⌝ }
+{
+    match validate_sizes(store_len, input_len, payload_len) {
+        Check::Refused(refusal) => Check::Refused(refusal),
+        Check::Passed => {
+            if payload_len < used {
+                return Check::Refused(Refusal::UsedPastSlice);
+            }
+            validate_description(coded_type, store_len)
+        }
     }
 }
 

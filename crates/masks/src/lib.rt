@@ -9,6 +9,7 @@ pub use condensed::count_mask_ones;
 pub use condensed::gather_bits;
 pub use plain::Kept;
 pub use plain::apply_bit_mask;
+pub use plain::mask_bit_at;
 
 // What a field does with a mask. Without one it has no mask, not even an empty one.
 pub enum MaskUse {

@@ -11,7 +11,8 @@ pub enum Kept {
     UnderZeros,
 }
 
-fn mask_bit_at(mask: &[u8], i: usize) -> u8
+// Bit i of a mask.
+pub fn mask_bit_at(mask: &[u8], i: usize) -> u8
     ensures { λ r. ⌜ r ≡ maskBit (now (mask .entry)) i ⌝ }
 {
     if mask.len() == 0 {

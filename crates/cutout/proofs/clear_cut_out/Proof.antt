@@ -1,0 +1,34 @@
+-- `cutout::clear_cut_out` meets its contract. Assumes nothing.
+use Rattle.masks.specs.Mask.{maskOf}
+use Rattle.cutout.specs.CutOut.{cleared}
+use Rattle.cutout.proofs.Splices.{turned-back}
+use borrow.Author.Needs.{needs}
+use Rattle.cutout.proofs.clear_cut_out.Statement.{statement}
+use Rattle.cutout.proofs.clear_cut_out.Tie as tie
+
+normalize-byte-order-requires : tie.Need-normalize-byte-order-requires
+normalize-byte-order-requires c κs = search needs
+
+clear-bits-requires : tie.Need-clear-bits-requires
+clear-bits-requires c κs = search needs
+
+normalize-byte-order-requires-2 : tie.Need-normalize-byte-order-requires-2
+normalize-byte-order-requires-2 c κs = search needs
+
+same-length : tie.Need-same-length
+same-length c = search needs
+
+returns : tie.Need-returns
+returns c = let s = c .before .before .before .before .before .before .before .before .before .before .before .before .before .before in
+    let own = cleared (maskOf (s .args .mask-use) (s .args .mask .now)) (s .args .bit-len .0) (s .args .bit-pos) in
+    turned-back (s .args .byte-order) own (s .args .cut-out .now) _ _ _ (c .before .before .before .before .before .before .before .before .before .before .normalize-byte-order .ensures) (c .before .before .before .before .before .before .clear-bits .ensures) (c .before .before .normalize-byte-order2 .ensures)
+
+pub clear-cut-out-spec : {M : Type 1} → statement M
+clear-cut-out-spec =
+    tie.close
+    (tie.spec
+    normalize-byte-order-requires
+    clear-bits-requires
+    normalize-byte-order-requires-2
+    same-length
+    returns)

@@ -1,0 +1,215 @@
+// The cut-out of a payload: a source put into it, and a field's own bits taken out of it.
+ghost use mathlib.Core.Path.{_≡_};
+ghost use Prim.Native.Nat.{_+_, _*_, _^_, _<_, _≤_, max};
+ghost use lib.ListN.{length};
+ghost use Rattle.order.specs.Order.{ordered};
+ghost use Rattle.masks.specs.Mask.{maskOf};
+ghost use Rattle.pack.specs.Source.{sizeUnder};
+ghost use Rattle.pack.specs.Packing.{packedSource};
+ghost use Rattle.cutout.specs.Answers.{payloadOf, answered};
+ghost use Rattle.cutout.specs.CutOut.{cleared, put, grown, cutBytes, writing, clearing};
+use kinds::BitLength;
+use kinds::ByteOrder;
+use kinds::Refusal;
+use kinds::Writing;
+use masks::Kept;
+use masks::MaskUse;
+use pack::Packing;
+
+// Puts a source into the ordered bytes, after what is under a mask is cleared.
+fn put_bits(
+    packing: Packing,
+    data: &[u8],
+    mask_use: MaskUse,
+    mask: &[u8],
+    bit_pos: usize,
+    cut_out: &mut [u8],
+)
+    requires { ⌜ length (now «data») ≤ 65535 ⌝ }
+    requires { ⌜ packing .«tail_len» < 2 ^ 32 ⌝ }
+    requires { ⌜ length (now «cut_out») ≤ 65535 ⌝ }
+    requires { ⌜ «bit_pos» + packing .«bit_len» .0 ≤ 8 * length (now «cut_out») ⌝ }
+    requires { ⌜ packing .«bit_len» .0 ≡ sizeUnder (maskOf «mask_use» (now mask)) (packing .«bit_len» .0) ⌝ }
+    ensures { λ _. ⌜ now («cut_out» .exit) ≡ put (packedSource packing (maskOf «mask_use» (now (mask .entry))) (now («data» .entry))) «bit_pos» (now («cut_out» .entry)) ⌝ }
+{
+    let bit_len = packing.bit_len;
+    match mask_use {
+        MaskUse::Absent => pack::inject_bits(packing, data, false, mask, bit_pos, cut_out),
+        MaskUse::Plain => {
+            masks::apply_bit_mask(cut_out, mask, Kept::UnderZeros, bit_len, bit_pos);
+            pack::inject_bits(packing, data, true, mask, bit_pos, cut_out);
+        }
+        MaskUse::Condensed => {
+            masks::apply_bit_mask(cut_out, mask, Kept::UnderZeros, bit_len, bit_pos);
+            masks::apply_condensed_mask_packing(data, mask, bit_pos, cut_out);
+        }
+    }
+}
+
+// Turns a cut-out to its ordered form, puts a source into it, and turns it back.
+fn write_cut_out(
+    cut_out: &mut [u8],
+    byte_order: ByteOrder,
+    packing: Packing,
+    data: &[u8],
+    mask_use: MaskUse,
+    mask: &[u8],
+    bit_pos: usize,
+)
+    requires { ⌜ length (now «data») ≤ 65535 ⌝ }
+    requires { ⌜ packing .«tail_len» < 2 ^ 32 ⌝ }
+    requires { ⌜ length (now «cut_out») ≤ 65535 ⌝ }
+    requires { ⌜ «bit_pos» + packing .«bit_len» .0 ≤ 8 * length (now «cut_out») ⌝ }
+    requires { ⌜ packing .«bit_len» .0 ≡ sizeUnder (maskOf «mask_use» (now mask)) (packing .«bit_len» .0) ⌝ }
+    ensures { λ _. ⌜ now («cut_out» .exit) ≡ ordered «byte_order» (put (packedSource packing (maskOf «mask_use» (now (mask .entry))) (now («data» .entry))) «bit_pos» (ordered «byte_order» (now («cut_out» .entry)))) ⌝ }
+{
+    order::normalize_byte_order(cut_out, byte_order);
+    put_bits(packing, data, mask_use, mask, bit_pos, cut_out);
+    order::normalize_byte_order(cut_out, byte_order);
+}
+
+// Zeros from the used length up to an end, where that is higher.
+fn grow(uds_payload: &mut [u8], used: usize, end_pos: usize)
+    requires { ⌜ used ≤ length (now «uds_payload») ⌝ }
+    requires { ⌜ «end_pos» ≤ length (now «uds_payload») ⌝ }
+    ensures { λ _. ⌜ now («uds_payload» .exit) ≡ grown used «end_pos» (now («uds_payload» .entry)) ⌝ }
+{
+    if used < end_pos {
+        bits::zero(&mut uds_payload[used..end_pos]);
+    }
+}
+
+fn larger(a: usize, b: usize) -> usize
+    ensures { λ r. ⌜ r ≡ max a b ⌝ }
+{
+    if a < b {
+        return b;
+    }
+    a
+}
+
+// The bytes of a cut-out for so many bits at a bit position.
+fn cut_bytes(bit_pos: usize, bit_len: BitLength) -> usize
+    requires { ⌜ «bit_pos» ≤ 7 ⌝ }
+    ensures { λ r. ⌜ r ≡ cutBytes «bit_pos» («bit_len» .0) ⌝ }
+{
+    (bit_pos + bit_len.bits() + 7) / 8
+}
+
+// Writes a source at a byte position and a bit position, and grows the payload to hold it: 26 and 40, or all of it.
+pub fn write_source(
+    packing: Packing,
+    data: &[u8],
+    mask_use: MaskUse,
+    mask: &[u8],
+    byte_order: ByteOrder,
+    uds_payload: &mut [u8],
+    used: &mut usize,
+    byte_pos: usize,
+    bit_pos: usize,
+) -> Writing
+    requires { ⌜ length (now «data») ≤ 65535 ⌝ }
+    requires { ⌜ packing .«tail_len» < 2 ^ 32 ⌝ }
+    requires { ⌜ length (now «uds_payload») ≤ 65535 ⌝ }
+    requires { ⌜ now used ≤ length (now «uds_payload») ⌝ }
+    requires { ⌜ packing .«bit_len» .0 ≡ sizeUnder (maskOf «mask_use» (now mask)) (packing .«bit_len» .0) ⌝ }
+    ensures { λ r. ⌜ answered r (payloadOf (now («uds_payload» .exit)) (now (used .exit))) ≡ writing «byte_order» (packedSource packing (maskOf «mask_use» (now (mask .entry))) (now («data» .entry))) (payloadOf (now («uds_payload» .entry)) (now (used .entry))) «byte_pos» «bit_pos» ⌝ }
+{
+    if 7 < bit_pos {
+        return Writing::Refused(Refusal::BitPositionAboveSeven);
+    }
+    let bit_len = packing.bit_len;
+    let end_pos = kinds::saturating_add(byte_pos, cut_bytes(bit_pos, bit_len));
+    if uds_payload.len() < end_pos {
+        return Writing::Refused(Refusal::PayloadLacksRoom);
+    }
+    grow(uds_payload, *used, end_pos);
+    write_cut_out(
+        &mut uds_payload[byte_pos..end_pos],
+        byte_order,
+        packing,
+        data,
+        mask_use,
+        mask,
+        bit_pos,
+    );
+    *used = larger(*used, end_pos);
+    Writing::Written
+}
+
+// Takes the bits that a field owns out of the ordered bytes.
+fn clear_bits(
+    bit_len: BitLength,
+    mask_use: MaskUse,
+    mask: &[u8],
+    bit_pos: usize,
+    cut_out: &mut [u8],
+)
+    requires { ⌜ length (now «cut_out») ≤ 65535 ⌝ }
+    requires { ⌜ «bit_pos» ≤ 7 ⌝ }
+    ensures { λ _. ⌜ now («cut_out» .exit) ≡ cleared (maskOf «mask_use» (now (mask .entry))) («bit_len» .0) «bit_pos» (now («cut_out» .entry)) ⌝ }
+{
+    match mask_use {
+        // a short mask repeats its first byte: all ones
+        MaskUse::Absent => {
+            masks::apply_bit_mask(cut_out, b"\xFF", Kept::UnderZeros, bit_len, bit_pos)
+        }
+        MaskUse::Plain => masks::apply_bit_mask(cut_out, mask, Kept::UnderZeros, bit_len, bit_pos),
+        MaskUse::Condensed => {
+            masks::apply_bit_mask(cut_out, mask, Kept::UnderZeros, bit_len, bit_pos)
+        }
+    }
+}
+
+fn clear_cut_out(
+    cut_out: &mut [u8],
+    byte_order: ByteOrder,
+    bit_len: BitLength,
+    mask_use: MaskUse,
+    mask: &[u8],
+    bit_pos: usize,
+)
+    requires { ⌜ length (now «cut_out») ≤ 65535 ⌝ }
+    requires { ⌜ «bit_pos» ≤ 7 ⌝ }
+    ensures { λ _. ⌜ now («cut_out» .exit) ≡ ordered «byte_order» (cleared (maskOf «mask_use» (now (mask .entry))) («bit_len» .0) «bit_pos» (ordered «byte_order» (now («cut_out» .entry)))) ⌝ }
+{
+    order::normalize_byte_order(cut_out, byte_order);
+    clear_bits(bit_len, mask_use, mask, bit_pos, cut_out);
+    order::normalize_byte_order(cut_out, byte_order);
+}
+
+// Takes the bits that a field owns out of a payload, in the cut-out that a write would use: 26 and 30, or all of them.
+pub fn clear_source(
+    bit_len: BitLength,
+    mask_use: MaskUse,
+    mask: &[u8],
+    byte_order: ByteOrder,
+    uds_payload: &mut [u8],
+    used: usize,
+    byte_pos: usize,
+    bit_pos: usize,
+) -> Writing
+    requires { ⌜ length (now «uds_payload») ≤ 65535 ⌝ }
+    requires { ⌜ used ≤ length (now «uds_payload») ⌝ }
+    ensures { λ r. ⌜ answered r (payloadOf (now («uds_payload» .exit)) used) ≡ clearing «byte_order» (maskOf «mask_use» (now (mask .entry))) («bit_len» .0) (payloadOf (now («uds_payload» .entry)) used) «byte_pos» «bit_pos» ⌝ }
+{
+    if 7 < bit_pos {
+        return Writing::Refused(Refusal::BitPositionAboveSeven);
+    }
+    let end_pos = kinds::saturating_add(byte_pos, cut_bytes(bit_pos, bit_len));
+    if used < end_pos {
+        return Writing::Refused(Refusal::NotEnoughData {
+            expected: end_pos,
+            actual: used,
+        });
+    }
+    clear_cut_out(
+        &mut uds_payload[byte_pos..end_pos],
+        byte_order,
+        bit_len,
+        mask_use,
+        mask,
+        bit_pos,
+    );
+    Writing::Written
+}
