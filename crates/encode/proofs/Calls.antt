@@ -16,7 +16,8 @@ use Rattle.field.specs.Refusals.{writeCallRefusal}
 use Rattle.field.proofs.Numbers.{write-call-not-30}
 use Rattle.cutout.specs.Answers.{Encoded, payloadOf, answered}
 use Rattle.cutout.proofs.Ways.{handed, after-none}
-use Rattle.encode.specs.Encode.{shapeEncoded, encodeOf, encoded}
+use Rattle.writers.specs.Shapes.{shapeEncoded}
+use Rattle.encode.specs.Encode.{encodeOf, encoded}
 use Rattle.encode.specs.Clear.{clearOf, clearedField}
 
 module _ (t : DiagCodedType) (store : List ℕ) (bytes : List ℕ) (used at pos : ℕ) where

@@ -13,9 +13,9 @@ use Rattle.pack.specs.Source.{counted, sizeUnder}
 use Rattle.cutout.specs.Answers.{Payload, Encoded, refusedWith, answered}
 use Rattle.cutout.specs.CutOut.{clearing}
 use Rattle.cutout.proofs.Ways.{handed}
-use Rattle.encode.specs.Refusals.{standardRefusal}
+use Rattle.writers.specs.Refusals.{standardRefusal}
 use Rattle.encode.specs.Clear.{standardCleared}
-use Rattle.encode.proofs.Numbers.{standard-not-30}
+use Rattle.writers.proofs.Numbers.{standard-not-30}
 
 module _ (t : DataType) (o : ByteOrder) (p : Payload) (at pos len : ℕ) (mask : Mask) where
   abbrev Clears : Encoded → Type 0

@@ -6,9 +6,6 @@ ghost use Rattle.field.specs.Field.{maskIn};
 ghost use Rattle.cutout.specs.Answers.{payloadOf, answered};
 ghost use Rattle.encode.specs.Encode.{encoded};
 ghost use Rattle.encode.specs.Clear.{standardCleared, clearedField};
-use super::checks::counted_use;
-use super::checks::validate_standard;
-use super::variants::encode_variant;
 use coded::DiagCodedType;
 use coded::DiagCodedTypeVariant;
 use coded::StandardLengthType;
@@ -17,6 +14,9 @@ use kinds::Check;
 use kinds::DataType;
 use kinds::Refusal;
 use kinds::Writing;
+use writers::counted_use;
+use writers::encode_variant;
+use writers::validate_standard;
 
 // Writes the input as a field at a byte position and a bit position of the payload, of which `used` bytes are used. The
 // payload grows in its slice where the field ends past them. Masks are parts of the store.

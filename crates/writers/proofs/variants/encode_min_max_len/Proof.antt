@@ -1,0 +1,72 @@
+-- `writers::variants::encode_min_max_len` meets its contract. Assumes nothing.
+use Rattle.cutout.specs.Answers.{payloadOf}
+use Rattle.writers.proofs.Writings.{zero-written, hex-ff-written, until-end-written, short-terminator}
+use borrow.Author.Needs.{needs}
+use Rattle.writers.proofs.variants.encode_min_max_len.Statement.{statement}
+use Rattle.writers.proofs.variants.encode_min_max_len.Tie as tie
+
+terminator-len-requires : tie.Need-terminator-len-requires
+terminator-len-requires c κs = search needs
+
+enum-told : tie.Need-enum-told
+enum-told c = search needs
+
+returns : tie.Need-returns
+returns c = rw (c .before .enum-told .given .1, c .if1 .taken)
+
+write-terminated-requires : tie.Need-write-terminated-requires
+write-terminated-requires c κs = search needs
+
+enum-told-2 : tie.Need-enum-told-2
+enum-told-2 c = search needs
+
+write-terminated-requires-2 : tie.Need-write-terminated-requires-2
+write-terminated-requires-2 c κs = let s = c .before .before .before .before .before .before .before in
+    (short-terminator (s .args .is-unicode) (c .before .before .before .before .terminator-len .result) (c .before .before .before .before .terminator-len .ensures), s .pre)
+
+enum-told-3 : tie.Need-enum-told-3
+enum-told-3 c = search needs
+
+write-terminated-requires-3 : tie.Need-write-terminated-requires-3
+write-terminated-requires-3 c κs = let s = c .before .before .before .before .before .before .before in
+    (short-terminator (s .args .is-unicode) (c .before .before .before .before .terminator-len .result) (c .before .before .before .before .terminator-len .ensures), s .pre)
+
+same-length : tie.Need-same-length
+same-length c = search needs
+
+returns-2 : tie.Need-returns-2
+returns-2 c = let s = c .before .before .before .before .before .before .before .before .before .before .before in
+    rw (c .before .before .before .before .before .before .enum-told .given .1) (until-end-written (s .args .byte-order) (s .args .input-data .now) (payloadOf (s .args .uds-payload .now) (s .args .used .now)) (s .args .byte-pos) (s .args .bit-pos) _ (c .before .before .before .before .before .if1 .left) (c .before .before .write-terminated .ensures) (s .args .is-unicode))
+
+same-length-2 : tie.Need-same-length-2
+same-length-2 c = search needs
+
+returns-3 : tie.Need-returns-3
+returns-3 c = let s = c .before .before .before .before .before .before .before .before .before .before in
+    rw (c .before .before .before .before .before .enum-told2 .given .1) (zero-written (s .args .byte-order) (s .args .input-data .now) (payloadOf (s .args .uds-payload .now) (s .args .used .now)) (s .args .byte-pos) (s .args .bit-pos) _ (s .args .is-unicode) (c .before .before .before .before .before .before .before .terminator-len .result) (c .before .before .before .before .before .before .before .terminator-len .ensures) (c .before .before .write-terminated2 .ensures))
+
+same-length-3 : tie.Need-same-length-3
+same-length-3 c = search needs
+
+returns-4 : tie.Need-returns-4
+returns-4 c = let s = c .before .before .before .before .before .before .before .before .before .before in
+    rw (c .before .before .before .before .before .enum-told3 .given .1) (hex-ff-written (s .args .byte-order) (s .args .input-data .now) (payloadOf (s .args .uds-payload .now) (s .args .used .now)) (s .args .byte-pos) (s .args .bit-pos) _ (s .args .is-unicode) (c .before .before .before .before .before .before .before .terminator-len .result) (c .before .before .before .before .before .before .before .terminator-len .ensures) (c .before .before .write-terminated3 .ensures))
+
+pub encode-min-max-len-spec : {M : Type 1} → statement M
+encode-min-max-len-spec =
+    tie.close
+    (tie.spec
+    terminator-len-requires
+    enum-told
+    returns
+    write-terminated-requires
+    enum-told-2
+    write-terminated-requires-2
+    enum-told-3
+    write-terminated-requires-3
+    same-length
+    returns-2
+    same-length-2
+    returns-3
+    same-length-3
+    returns-4)

@@ -1,0 +1,29 @@
+-- `writers::variants::write_terminated` meets its contract. Assumes nothing.
+use mathlib.Core.Path.{ap}
+use native.Mathlib.Omega.{arith}
+use Rattle.pack.specs.declared.Packing.{Packing}
+use Rattle.cutout.specs.Answers.{payloadOf}
+use Rattle.writers.proofs.Writings.{terminated-written}
+use borrow.Author.Needs.{needs}
+use Rattle.writers.proofs.variants.write_terminated.Statement.{statement}
+use Rattle.writers.proofs.variants.write_terminated.Tie as tie
+
+add-frame : tie.Need-add-frame
+add-frame c = search needs
+
+frame-requires : tie.Need-frame-requires
+frame-requires c κs = search needs
+
+write-bytes-requires : tie.Need-write-bytes-requires
+write-bytes-requires c κs = let tail = ap (λ (k : Packing). k .«tail_len») (c .before .before .frame .ensures) in omega arith
+
+same-length : tie.Need-same-length
+same-length c = search needs
+
+returns : tie.Need-returns
+returns c = let s = c .before .before .before .before .before .before .before .before in
+    terminated-written (s .args .byte-order) (s .args .input-data .now) (payloadOf (s .args .uds-payload .now) (s .args .used .now)) (s .args .byte-pos) (s .args .bit-pos) _ (s .args .tail-len) (s .args .tail) (c .before .before .before .before .before .frame .result) (c .before .before .before .before .before .frame .ensures) (c .before .before .write-bytes .ensures)
+
+pub write-terminated-spec : {M : Type 1} → statement M
+write-terminated-spec =
+    tie.close (tie.spec add-frame frame-requires write-bytes-requires same-length returns)

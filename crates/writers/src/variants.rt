@@ -1,0 +1,318 @@
+// Each variant's writing: what its source is, after what it refuses.
+ghost use mathlib.Core.Path.{_≡_};
+ghost use mathlib.Core.Bool.{cond};
+ghost use Prim.Native.Nat.{_^_, _<_, _≤_};
+ghost use lib.ListN.{length};
+ghost use Rattle.masks.specs.Mask.{noMask};
+ghost use Rattle.field.specs.Field.{maskIn, shapeOf};
+ghost use Rattle.pack.specs.Source.{bytesSource, terminated};
+ghost use Rattle.pack.specs.Packing.{packedSource};
+ghost use Rattle.cutout.specs.Answers.{payloadOf, answered};
+ghost use Rattle.cutout.specs.CutOut.{writing};
+ghost use Rattle.writers.specs.Shapes.{standardEncoded, leadingEncoded, minMaxEncoded, paramEncoded, shapeEncoded};
+use super::checks::counted_use;
+use super::checks::validate_leading_length;
+use super::checks::validate_standard;
+use coded::DiagCodedTypeVariant;
+use coded::StandardLengthType;
+use coded::Termination;
+use kinds::BitLength;
+use kinds::ByteOrder;
+use kinds::Check;
+use kinds::DataType;
+use kinds::Refusal;
+use kinds::Writing;
+use masks::MaskUse;
+use pack::Packing;
+
+fn encode_standard_len(
+    base_datatype: DataType,
+    standard: StandardLengthType,
+    store: &[u8],
+    input_data: &[u8],
+    byte_order: ByteOrder,
+    uds_payload: &mut [u8],
+    used: &mut usize,
+    byte_pos: usize,
+    bit_pos: usize,
+) -> Writing
+    requires { ⌜ length (now store) ≤ 65535 ⌝ }
+    requires { ⌜ length (now «input_data») ≤ 65535 ⌝ }
+    requires { ⌜ length (now «uds_payload») ≤ 65535 ⌝ }
+    requires { ⌜ now used ≤ length (now «uds_payload») ⌝ }
+    ensures { λ r. ⌜ answered r (payloadOf (now («uds_payload» .exit)) (now (used .exit))) ≡ standardEncoded «byte_order» (now («input_data» .entry)) (payloadOf (now («uds_payload» .entry)) (now (used .entry))) «byte_pos» «bit_pos» «base_datatype» (standard .«bit_length» .0) (maskIn (now (store .entry)) standard) ⌝ }
+{
+    let bit_len = standard.bit_length;
+    let bit_mask = standard.bit_mask;
+    let described = field::mask_use(bit_mask, standard.condensed);
+    let mask = field::placed_part(store, bit_mask);
+    match validate_standard(base_datatype, bit_len, described, mask) {
+        Check::Refused(refusal) => Writing::Refused(refusal),
+        Check::Passed => {
+            let mask_use = counted_use(described, mask);
+            let byte_type = base_datatype.is_byte_type();
+            let packing = pack::pack_data(bit_len, mask_use, mask, input_data.len(), byte_type);
+            let data_len = packing.data_len;
+            cutout::write_source(
+                packing,
+                &input_data[..data_len],
+                mask_use,
+                mask,
+                byte_order,
+                uds_payload,
+                used,
+                byte_pos,
+                bit_pos,
+            )
+        }
+    }
+}
+
+// Whole bytes have no mask.
+fn write_bytes(
+    packing: Packing,
+    input_data: &[u8],
+    byte_order: ByteOrder,
+    uds_payload: &mut [u8],
+    used: &mut usize,
+    byte_pos: usize,
+    bit_pos: usize,
+) -> Writing
+    requires { ⌜ length (now «input_data») ≤ 65535 ⌝ }
+    requires { ⌜ packing .«tail_len» < 2 ^ 32 ⌝ }
+    requires { ⌜ length (now «uds_payload») ≤ 65535 ⌝ }
+    requires { ⌜ now used ≤ length (now «uds_payload») ⌝ }
+    ensures { λ r. ⌜ answered r (payloadOf (now («uds_payload» .exit)) (now (used .exit))) ≡ writing «byte_order» (packedSource packing noMask (now («input_data» .entry))) (payloadOf (now («uds_payload» .entry)) (now (used .entry))) «byte_pos» «bit_pos» ⌝ }
+{
+    let no_mask = &input_data[..0];
+    cutout::write_source(
+        packing,
+        input_data,
+        MaskUse::Absent,
+        no_mask,
+        byte_order,
+        uds_payload,
+        used,
+        byte_pos,
+        bit_pos,
+    )
+}
+
+// The length field, big-endian, and then the input.
+fn encode_leading_length(
+    bit_len: BitLength,
+    input_data: &[u8],
+    byte_order: ByteOrder,
+    uds_payload: &mut [u8],
+    used: &mut usize,
+    byte_pos: usize,
+    bit_pos: usize,
+) -> Writing
+    requires { ⌜ length (now «input_data») ≤ 65535 ⌝ }
+    requires { ⌜ length (now «uds_payload») ≤ 65535 ⌝ }
+    requires { ⌜ now used ≤ length (now «uds_payload») ⌝ }
+    ensures { λ r. ⌜ answered r (payloadOf (now («uds_payload» .exit)) (now (used .exit))) ≡ leadingEncoded «byte_order» (now («input_data» .entry)) (payloadOf (now («uds_payload» .entry)) (now (used .entry))) «byte_pos» «bit_pos» («bit_len» .0) ⌝ }
+{
+    match validate_leading_length(bit_len, input_data.len()) {
+        Check::Refused(refusal) => Writing::Refused(refusal),
+        Check::Passed => {
+            let data_len = input_data.len();
+            let byte_count = bit_len.byte_count().bytes() + data_len;
+            let packing = pack::frame(byte_count, data_len, data_len, 0, 0);
+            write_bytes(
+                packing,
+                input_data,
+                byte_order,
+                uds_payload,
+                used,
+                byte_pos,
+                bit_pos,
+            )
+        }
+    }
+}
+
+// The input, and then so many bytes of a terminator.
+fn write_terminated(
+    tail: u8,
+    tail_len: usize,
+    input_data: &[u8],
+    byte_order: ByteOrder,
+    uds_payload: &mut [u8],
+    used: &mut usize,
+    byte_pos: usize,
+    bit_pos: usize,
+) -> Writing
+    requires { ⌜ «tail_len» ≤ 2 ⌝ }
+    requires { ⌜ length (now «input_data») ≤ 65535 ⌝ }
+    requires { ⌜ length (now «uds_payload») ≤ 65535 ⌝ }
+    requires { ⌜ now used ≤ length (now «uds_payload») ⌝ }
+    ensures { λ r. ⌜ answered r (payloadOf (now («uds_payload» .exit)) (now (used .exit))) ≡ writing «byte_order» (bytesSource (terminated (now («input_data» .entry)) «tail_len» tail)) (payloadOf (now («uds_payload» .entry)) (now (used .entry))) «byte_pos» «bit_pos» ⌝ }
+{
+    let data_len = input_data.len();
+    let packing = pack::frame(data_len + tail_len, 0, data_len, tail, tail_len);
+    write_bytes(
+        packing,
+        input_data,
+        byte_order,
+        uds_payload,
+        used,
+        byte_pos,
+        bit_pos,
+    )
+}
+
+// A terminator is as long as a character.
+fn terminator_len(is_unicode: bool) -> usize
+    ensures { λ r. ⌜ r ≡ cond «is_unicode» 2 1 ⌝ }
+{
+    if is_unicode {
+        return 2;
+    }
+    1
+}
+
+fn encode_min_max_len(
+    is_unicode: bool,
+    termination: Termination,
+    input_data: &[u8],
+    byte_order: ByteOrder,
+    uds_payload: &mut [u8],
+    used: &mut usize,
+    byte_pos: usize,
+    bit_pos: usize,
+) -> Writing
+    requires { ⌜ length (now «input_data») ≤ 65535 ⌝ }
+    requires { ⌜ length (now «uds_payload») ≤ 65535 ⌝ }
+    requires { ⌜ now used ≤ length (now «uds_payload») ⌝ }
+    ensures { λ r. ⌜ answered r (payloadOf (now («uds_payload» .exit)) (now (used .exit))) ≡ minMaxEncoded «byte_order» (now («input_data» .entry)) (payloadOf (now («uds_payload» .entry)) (now (used .entry))) «byte_pos» «bit_pos» «is_unicode» termination ⌝ }
+{
+    let count = terminator_len(is_unicode);
+    match termination {
+        Termination::EndOfPdu => {
+            if input_data.len() == 0 {
+                return Writing::Refused(Refusal::EmptyUntilEndOfPdu);
+            }
+            write_terminated(
+                0,
+                0,
+                input_data,
+                byte_order,
+                uds_payload,
+                used,
+                byte_pos,
+                bit_pos,
+            )
+        }
+        Termination::Zero => write_terminated(
+            0,
+            count,
+            input_data,
+            byte_order,
+            uds_payload,
+            used,
+            byte_pos,
+            bit_pos,
+        ),
+        Termination::HexFF => write_terminated(
+            0xFF,
+            count,
+            input_data,
+            byte_order,
+            uds_payload,
+            used,
+            byte_pos,
+            bit_pos,
+        ),
+    }
+}
+
+fn encode_param_len(
+    input_data: &[u8],
+    byte_order: ByteOrder,
+    uds_payload: &mut [u8],
+    used: &mut usize,
+    byte_pos: usize,
+    bit_pos: usize,
+) -> Writing
+    requires { ⌜ length (now «input_data») ≤ 65535 ⌝ }
+    requires { ⌜ length (now «uds_payload») ≤ 65535 ⌝ }
+    requires { ⌜ now used ≤ length (now «uds_payload») ⌝ }
+    ensures { λ r. ⌜ answered r (payloadOf (now («uds_payload» .exit)) (now (used .exit))) ≡ paramEncoded «byte_order» (now («input_data» .entry)) (payloadOf (now («uds_payload» .entry)) (now (used .entry))) «byte_pos» «bit_pos» ⌝ }
+{
+    if input_data.len() == 0 {
+        return Writing::Written;
+    }
+    write_terminated(
+        0,
+        0,
+        input_data,
+        byte_order,
+        uds_payload,
+        used,
+        byte_pos,
+        bit_pos,
+    )
+}
+
+pub fn encode_variant(
+    base_datatype: DataType,
+    type_: DiagCodedTypeVariant,
+    store: &[u8],
+    input_data: &[u8],
+    byte_order: ByteOrder,
+    uds_payload: &mut [u8],
+    used: &mut usize,
+    byte_pos: usize,
+    bit_pos: usize,
+) -> Writing
+    requires { ⌜ length (now store) ≤ 65535 ⌝ }
+    requires { ⌜ length (now «input_data») ≤ 65535 ⌝ }
+    requires { ⌜ length (now «uds_payload») ≤ 65535 ⌝ }
+    requires { ⌜ now used ≤ length (now «uds_payload») ⌝ }
+    ensures { λ r. ⌜ answered r (payloadOf (now («uds_payload» .exit)) (now (used .exit))) ≡ shapeEncoded «byte_order» (now («input_data» .entry)) (payloadOf (now («uds_payload» .entry)) (now (used .entry))) «byte_pos» «bit_pos» «base_datatype» (shapeOf (now (store .entry)) «type_») ⌝ }
+{
+    match type_ {
+        DiagCodedTypeVariant::LeadingLengthInfo(bits) => encode_leading_length(
+            bits,
+            input_data,
+            byte_order,
+            uds_payload,
+            used,
+            byte_pos,
+            bit_pos,
+        ),
+        DiagCodedTypeVariant::MinMaxLength(limits) => {
+            let termination = limits.termination;
+            encode_min_max_len(
+                base_datatype.is_unicode(),
+                termination,
+                input_data,
+                byte_order,
+                uds_payload,
+                used,
+                byte_pos,
+                bit_pos,
+            )
+        }
+        DiagCodedTypeVariant::StandardLength(standard) => encode_standard_len(
+            base_datatype,
+            standard,
+            store,
+            input_data,
+            byte_order,
+            uds_payload,
+            used,
+            byte_pos,
+            bit_pos,
+        ),
+        DiagCodedTypeVariant::ParamLengthInfo(_) => encode_param_len(
+            input_data,
+            byte_order,
+            uds_payload,
+            used,
+            byte_pos,
+            bit_pos,
+        ),
+    }
+}
