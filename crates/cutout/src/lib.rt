@@ -7,8 +7,9 @@ ghost use Rattle.masks.specs.Mask.{maskOf};
 ghost use Rattle.pack.specs.Source.{sizeUnder};
 ghost use Rattle.pack.specs.Packing.{packedSource};
 ghost use Rattle.cutout.specs.Answers.{payloadOf, answered};
-ghost use Rattle.cutout.specs.CutOut.{cleared, put, grown, cutBytes, writing, clearing};
+ghost use Rattle.cutout.specs.CutOut.{cleared, put, grown, cutBytes, cutEnd, writing, clearing};
 use kinds::BitLength;
+use kinds::ByteCount;
 use kinds::ByteOrder;
 use kinds::Refusal;
 use kinds::Writing;
@@ -89,11 +90,19 @@ fn larger(a: usize, b: usize) -> usize
 }
 
 // The bytes of a cut-out for so many bits at a bit position.
-fn cut_bytes(bit_pos: usize, bit_len: BitLength) -> usize
+fn cut_bytes(bit_pos: usize, bit_len: BitLength) -> ByteCount
     requires { ⌜ «bit_pos» ≤ 7 ⌝ }
-    ensures { λ r. ⌜ r ≡ cutBytes «bit_pos» («bit_len» .0) ⌝ }
+    ensures { λ r. ⌜ r .0 ≡ cutBytes «bit_pos» («bit_len» .0) ⌝ }
 {
-    (bit_pos + bit_len.bits() + 7) / 8
+    ByteCount((bit_pos + bit_len.bits() + 7) / 8)
+}
+
+// Where it ends, from a byte position on.
+fn cut_end(byte_pos: usize, bit_pos: usize, bit_len: BitLength) -> usize
+    requires { ⌜ «bit_pos» ≤ 7 ⌝ }
+    ensures { λ r. ⌜ r ≡ cutEnd «byte_pos» «bit_pos» («bit_len» .0) ⌝ }
+{
+    kinds::saturating_add(byte_pos, cut_bytes(bit_pos, bit_len).bytes())
 }
 
 // Writes a source at a byte position and a bit position, and grows the payload to hold it: 26 and 40, or all of it.
@@ -119,7 +128,7 @@ pub fn write_source(
         return Writing::Refused(Refusal::BitPositionAboveSeven);
     }
     let bit_len = packing.bit_len;
-    let end_pos = kinds::saturating_add(byte_pos, cut_bytes(bit_pos, bit_len));
+    let end_pos = cut_end(byte_pos, bit_pos, bit_len);
     if uds_payload.len() < end_pos {
         return Writing::Refused(Refusal::PayloadLacksRoom);
     }
@@ -196,7 +205,7 @@ pub fn clear_source(
     if 7 < bit_pos {
         return Writing::Refused(Refusal::BitPositionAboveSeven);
     }
-    let end_pos = kinds::saturating_add(byte_pos, cut_bytes(bit_pos, bit_len));
+    let end_pos = cut_end(byte_pos, bit_pos, bit_len);
     if used < end_pos {
         return Writing::Refused(Refusal::NotEnoughData {
             expected: end_pos,

@@ -139,11 +139,17 @@ fn align(bit_len: BitLength, data_len: usize, byte_type: bool) -> Packing
 }
 
 // Whole bytes, so many in all: the bits of a head, the data, and a tail of equal bytes.
-pub fn frame(byte_count: usize, head: usize, data_len: usize, tail: u8, tail_len: usize) -> Packing
-    requires { ⌜ «byte_count» < 2 ^ 29 ⌝ }
-    ensures { λ r. ⌜ r ≡ framing (8 * «byte_count») head «data_len» tail «tail_len» ⌝ }
+pub fn frame(
+    byte_count: ByteCount,
+    head: usize,
+    data_len: usize,
+    tail: u8,
+    tail_len: usize,
+) -> Packing
+    requires { ⌜ «byte_count» .0 < 2 ^ 29 ⌝ }
+    ensures { λ r. ⌜ r ≡ framing (8 * «byte_count» .0) head «data_len» tail «tail_len» ⌝ }
 {
-    let bit_len = ByteCount(byte_count).bit_length();
+    let bit_len = byte_count.bit_length();
     Packing {
         bit_len,
         head,
@@ -168,6 +174,6 @@ pub fn pack_data(
     match mask_use {
         MaskUse::Absent => align(bit_len, data_len, byte_type),
         MaskUse::Plain => align(bit_len, data_len, byte_type),
-        MaskUse::Condensed => frame(mask.len(), 0, data_len, 0, 0),
+        MaskUse::Condensed => frame(ByteCount(mask.len()), 0, data_len, 0, 0),
     }
 }

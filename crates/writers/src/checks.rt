@@ -9,17 +9,18 @@ ghost use Rattle.masks.specs.Mask.{maskOf};
 ghost use Rattle.pack.specs.Source.{counted};
 ghost use Rattle.writers.specs.Refusals.{standardRefusal, leadingRefusal};
 use kinds::BitLength;
+use kinds::ByteCount;
 use kinds::Check;
 use kinds::DataType;
 use kinds::Refusal;
 use masks::MaskUse;
 
 // 36, of a condensed mask.
-fn validate_condensed(bit_len: BitLength, mask_len: usize) -> Check
-    requires { ⌜ «mask_len» ≤ 65535 ⌝ }
-    ensures { λ r. ⌜ numberOfCheck r ≡ cond (ltb («bit_len» .0) (8 * «mask_len»)) 36 0 ⌝ }
+fn validate_condensed(bit_len: BitLength, mask_len: ByteCount) -> Check
+    requires { ⌜ «mask_len» .0 ≤ 65535 ⌝ }
+    ensures { λ r. ⌜ numberOfCheck r ≡ cond (ltb («bit_len» .0) (8 * «mask_len» .0)) 36 0 ⌝ }
 {
-    if bit_len.bits() < 8 * mask_len {
+    if bit_len.bits() < mask_len.bit_length().bits() {
         return Check::Refused(Refusal::MaskLongerThanLength);
     }
     Check::Passed
@@ -40,7 +41,7 @@ pub fn validate_standard(
         Check::Passed => match mask_use {
             MaskUse::Absent => Check::Passed,
             MaskUse::Plain => Check::Passed,
-            MaskUse::Condensed => validate_condensed(bit_len, mask.len()),
+            MaskUse::Condensed => validate_condensed(bit_len, ByteCount(mask.len())),
         },
     }
 }

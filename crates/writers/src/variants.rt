@@ -17,6 +17,7 @@ use coded::DiagCodedTypeVariant;
 use coded::StandardLengthType;
 use coded::Termination;
 use kinds::BitLength;
+use kinds::ByteCount;
 use kinds::ByteOrder;
 use kinds::Check;
 use kinds::DataType;
@@ -117,8 +118,8 @@ fn encode_leading_length(
         Check::Refused(refusal) => Writing::Refused(refusal),
         Check::Passed => {
             let data_len = input_data.len();
-            let byte_count = bit_len.byte_count().bytes() + data_len;
-            let packing = pack::frame(byte_count, data_len, data_len, 0, 0);
+            let total = bit_len.byte_count().bytes() + data_len;
+            let packing = pack::frame(ByteCount(total), data_len, data_len, 0, 0);
             write_bytes(
                 packing,
                 input_data,
@@ -150,7 +151,8 @@ fn write_terminated(
     ensures { λ r. ⌜ answered r (payloadOf (now («uds_payload» .exit)) (now (used .exit))) ≡ writing «byte_order» (bytesSource (terminated (now («input_data» .entry)) «tail_len» tail)) (payloadOf (now («uds_payload» .entry)) (now (used .entry))) «byte_pos» «bit_pos» ⌝ }
 {
     let data_len = input_data.len();
-    let packing = pack::frame(data_len + tail_len, 0, data_len, tail, tail_len);
+    let total = data_len + tail_len;
+    let packing = pack::frame(ByteCount(total), 0, data_len, tail, tail_len);
     write_bytes(
         packing,
         input_data,

@@ -1,6 +1,4 @@
 -- `cutout::clear_source` meets its contract. Assumes nothing.
-use mathlib.Core.Path.{ap, _∙_}
-use Rattle.kinds.specs.Slices.{sum}
 use Rattle.masks.specs.Mask.{maskOf}
 use Rattle.cutout.proofs.Ways.{clear-26, clear-30, clear-all}
 use borrow.Author.Needs.{needs}
@@ -11,15 +9,12 @@ returns : tie.Need-returns
 returns c = let s = c .before .before .before in
     clear-26 (s .args .byte-order) (maskOf (s .args .mask-use) (s .args .mask .now)) (s .args .bit-len .0) (s .args .uds-payload .now) (s .args .used) (s .args .byte-pos) (s .args .bit-pos) (c .if1 .taken)
 
-cut-bytes-requires : tie.Need-cut-bytes-requires
-cut-bytes-requires c κs = search needs
-
-saturating-add-requires : tie.Need-saturating-add-requires
-saturating-add-requires c κs = search needs
+cut-end-requires : tie.Need-cut-end-requires
+cut-end-requires c κs = search needs
 
 returns-2 : tie.Need-returns-2
-returns-2 c = let s = c .before .before .before .before .before .before in
-    clear-30 (s .args .byte-order) (maskOf (s .args .mask-use) (s .args .mask .now)) (s .args .bit-len .0) (s .args .uds-payload .now) (s .args .used) (s .args .byte-pos) (s .args .bit-pos) (c .before .saturating-add .result) (c .before .saturating-add .ensures ∙ ap (sum (s .args .byte-pos)) (c .before .before .cut-bytes .ensures)) (c .before .before .before .if1 .left) (c .if2 .taken)
+returns-2 c = let s = c .before .before .before .before .before in
+    clear-30 (s .args .byte-order) (maskOf (s .args .mask-use) (s .args .mask .now)) (s .args .bit-len .0) (s .args .uds-payload .now) (s .args .used) (s .args .byte-pos) (s .args .bit-pos) (c .before .cut-end .result) (c .before .cut-end .ensures) (c .before .before .if1 .left) (c .if2 .taken)
 
 sub-clear-cut-out : tie.Need-sub-clear-cut-out
 sub-clear-cut-out c = search needs
@@ -37,16 +32,15 @@ same-length : tie.Need-same-length
 same-length c = search needs
 
 returns-3 : tie.Need-returns-3
-returns-3 c = let s = c .before .before .before .before .before .before .before .before .before .before in
-    clear-all (s .args .byte-order) (maskOf (s .args .mask-use) (s .args .mask .now)) (s .args .bit-len .0) (s .args .uds-payload .now) (s .args .used) (s .args .byte-pos) (s .args .bit-pos) (c .before .before .before .before .before .saturating-add .result) (c .before .before .before .before .before .saturating-add .ensures ∙ ap (sum (s .args .byte-pos)) (c .before .before .before .before .before .before .cut-bytes .ensures)) (c .before .before .before .before .before .before .before .if1 .left) (s .pre .0) (s .pre .1) (c .before .before .before .before .if2 .left) _ (c .before .before .clear-cut-out .ensures)
+returns-3 c = let s = c .before .before .before .before .before .before .before .before .before in
+    clear-all (s .args .byte-order) (maskOf (s .args .mask-use) (s .args .mask .now)) (s .args .bit-len .0) (s .args .uds-payload .now) (s .args .used) (s .args .byte-pos) (s .args .bit-pos) (c .before .before .before .before .before .cut-end .result) (c .before .before .before .before .before .cut-end .ensures) (c .before .before .before .before .before .before .if1 .left) (s .pre .0) (s .pre .1) (c .before .before .before .before .if2 .left) _ (c .before .before .clear-cut-out .ensures)
 
 pub clear-source-spec : {M : Type 1} → statement M
 clear-source-spec =
     tie.close
     (tie.spec
     returns
-    cut-bytes-requires
-    saturating-add-requires
+    cut-end-requires
     returns-2
     sub-clear-cut-out
     part-clear-cut-out-start

@@ -1,7 +1,5 @@
 -- `cutout::write_source` meets its contract. Assumes nothing.
-use mathlib.Core.Path.{_∙_, ap}
 use native.Mathlib.Omega.{arith}
-use Rattle.kinds.specs.Slices.{sum}
 use Rattle.masks.specs.Mask.{maskOf}
 use Rattle.pack.specs.Packing.{packedSource}
 use Rattle.cutout.proofs.Ways.{write-26, write-40}
@@ -15,16 +13,13 @@ returns c = let s = c .before .before .before .before in
     let source = packedSource (s .args .packing) (maskOf (s .args .mask-use) (s .args .mask .now)) (s .args .«data» .now) in
     write-26 (s .args .byte-order) source (s .args .uds-payload .now) (s .args .used .now) (s .args .byte-pos) (s .args .bit-pos) (c .if1 .taken)
 
-cut-bytes-requires : tie.Need-cut-bytes-requires
-cut-bytes-requires c κs = search needs
-
-saturating-add-requires : tie.Need-saturating-add-requires
-saturating-add-requires c κs = search needs
+cut-end-requires : tie.Need-cut-end-requires
+cut-end-requires c κs = search needs
 
 returns-2 : tie.Need-returns-2
-returns-2 c = let s = c .before .before .before .before .before .before .before .before in
+returns-2 c = let s = c .before .before .before .before .before .before .before in
     let source = packedSource (s .args .packing) (maskOf (s .args .mask-use) (s .args .mask .now)) (s .args .«data» .now) in
-    write-40 (s .args .byte-order) source (s .args .uds-payload .now) (s .args .used .now) (s .args .byte-pos) (s .args .bit-pos) (c .before .before .before .before .if1 .left) (omega arith)
+    write-40 (s .args .byte-order) source (s .args .uds-payload .now) (s .args .used .now) (s .args .byte-pos) (s .args .bit-pos) (c .before .before .before .if1 .left) (omega arith)
 
 grow-requires : tie.Need-grow-requires
 grow-requires c κs = search needs
@@ -48,18 +43,16 @@ same-length : tie.Need-same-length
 same-length c = search needs
 
 returns-3 : tie.Need-returns-3
-returns-3 c = let s = c .before .before .before .before .before .before .before .before .before .before .before .before .before .before .before .before .before .before in
+returns-3 c = let s = c .before .before .before .before .before .before .before .before .before .before .before .before .before .before .before .before .before in
     let source = packedSource (s .args .packing) (maskOf (s .args .mask-use) (s .args .mask .now)) (s .args .«data» .now) in
-    let end = c .before .before .before .before .before .before .before .before .before .before .before .saturating-add .ensures ∙ ap (sum (s .args .byte-pos)) (c .before .before .before .before .before .before .before .before .before .before .before .before .cut-bytes .ensures) in
-    written-by (s .args .byte-order) source (s .args .uds-payload .now) (s .args .used .now) (s .args .byte-pos) (s .args .bit-pos) _ _ _ _ (c .before .before .before .before .before .before .before .before .before .before .before .before .before .before .if1 .left) end (c .before .before .before .before .before .before .before .before .before .before .if2 .left) (s .pre .1 .1 .0) (c .before .before .before .before .before .before .before .grow .ensures) (c .before .before .before .write-cut-out .ensures) (c .larger .ensures)
+    written-by (s .args .byte-order) source (s .args .uds-payload .now) (s .args .used .now) (s .args .byte-pos) (s .args .bit-pos) _ _ _ _ (c .before .before .before .before .before .before .before .before .before .before .before .before .before .if1 .left) (c .before .before .before .before .before .before .before .before .before .before .before .cut-end .ensures) (c .before .before .before .before .before .before .before .before .before .before .if2 .left) (s .pre .1 .1 .0) (c .before .before .before .before .before .before .before .grow .ensures) (c .before .before .before .write-cut-out .ensures) (c .larger .ensures)
 
 pub write-source-spec : {M : Type 1} → statement M
 write-source-spec =
     tie.close
     (tie.spec
     returns
-    cut-bytes-requires
-    saturating-add-requires
+    cut-end-requires
     returns-2
     grow-requires
     sub-write-cut-out

@@ -1,4 +1,5 @@
 -- `writers::checks::validate_condensed` meets its contract. Assumes nothing.
+use mathlib.Core.Path.{_∙_}
 use borrow.Author.Tests.{lt-ltb, le-ltb}
 use borrow.Author.Needs.{needs}
 use Rattle.writers.proofs.checks.validate_condensed.Statement.{statement}
@@ -7,14 +8,18 @@ use Rattle.writers.proofs.checks.validate_condensed.Tie as tie
 bits-requires : tie.Need-bits-requires
 bits-requires c κs = search needs
 
-mul-if1 : tie.Need-mul-if1
-mul-if1 c = search needs
+bit-length-requires : tie.Need-bit-length-requires
+bit-length-requires c κs = search needs
+
+bits-requires-2 : tie.Need-bits-requires-2
+bits-requires-2 c κs = search needs
 
 returns : tie.Need-returns
-returns c = rw (lt-ltb _ _ (rw (c .before .bits .ensures) at (c .if1 .taken)))
+returns c = let e = c .before .bits2 .ensures ∙ c .before .before .bit-length .ensures in rw (lt-ltb _ _ (rw (c .before .before .before .bits .ensures, e) at (c .if1 .taken)))
 
 returns-2 : tie.Need-returns-2
-returns-2 c = rw (le-ltb _ _ (rw (c .before .bits .ensures) at (c .if1 .left)))
+returns-2 c = let e = c .before .bits2 .ensures ∙ c .before .before .bit-length .ensures in rw (le-ltb _ _ (rw (c .before .before .before .bits .ensures, e) at (c .if1 .left)))
 
 pub validate-condensed-spec : {M : Type 1} → statement M
-validate-condensed-spec = tie.close (tie.spec bits-requires mul-if1 returns returns-2)
+validate-condensed-spec =
+    tie.close (tie.spec bits-requires bit-length-requires bits-requires-2 returns returns-2)

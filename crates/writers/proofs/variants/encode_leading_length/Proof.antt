@@ -34,8 +34,8 @@ byte-count-requires c κs = search needs
 bytes-requires : tie.Need-bytes-requires
 bytes-requires c κs = search needs
 
-add-byte-count : tie.Need-add-byte-count
-add-byte-count c = search needs
+add-total : tie.Need-add-total
+add-total c = search needs
 
 frame-requires : tie.Need-frame-requires
 frame-requires c κs = let wide = no-wider (c .before .before .before .before .before .before .before .args .bit-len .0) (length (c .before .before .before .before .before .before .before .args .input-data .now)) (passed (c .before .before)) in
@@ -67,7 +67,7 @@ encode-leading-length-spec =
     enum-told
     byte-count-requires
     bytes-requires
-    add-byte-count
+    add-total
     frame-requires
     write-bytes-requires
     returns

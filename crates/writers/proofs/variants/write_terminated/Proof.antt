@@ -8,8 +8,8 @@ use borrow.Author.Needs.{needs}
 use Rattle.writers.proofs.variants.write_terminated.Statement.{statement}
 use Rattle.writers.proofs.variants.write_terminated.Tie as tie
 
-add-frame : tie.Need-add-frame
-add-frame c = search needs
+add-total : tie.Need-add-total
+add-total c = search needs
 
 frame-requires : tie.Need-frame-requires
 frame-requires c κs = search needs
@@ -26,4 +26,4 @@ returns c = let s = c .before .before .before .before .before .before .before .b
 
 pub write-terminated-spec : {M : Type 1} → statement M
 write-terminated-spec =
-    tie.close (tie.spec add-frame frame-requires write-bytes-requires same-length returns)
+    tie.close (tie.spec add-total frame-requires write-bytes-requires same-length returns)
