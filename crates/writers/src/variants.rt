@@ -30,18 +30,18 @@ fn encode_standard_len(
     base_datatype: DataType,
     standard: StandardLengthType,
     store: &[u8],
-    input_data: &[u8],
+    input: &[u8],
     byte_order: ByteOrder,
-    uds_payload: &mut [u8],
+    payload: &mut [u8],
     used: &mut usize,
     byte_pos: usize,
     bit_pos: usize,
 ) -> Writing
     requires { ⌜ length (now store) ≤ 65535 ⌝ }
-    requires { ⌜ length (now «input_data») ≤ 65535 ⌝ }
-    requires { ⌜ length (now «uds_payload») ≤ 65535 ⌝ }
-    requires { ⌜ now used ≤ length (now «uds_payload») ⌝ }
-    ensures { λ r. ⌜ answered r (payloadOf (now («uds_payload» .exit)) (now (used .exit))) ≡ standardEncoded «byte_order» (now («input_data» .entry)) (payloadOf (now («uds_payload» .entry)) (now (used .entry))) «byte_pos» «bit_pos» «base_datatype» (standard .«bit_length» .0) (maskIn (now (store .entry)) standard) ⌝ }
+    requires { ⌜ length (now input) ≤ 65535 ⌝ }
+    requires { ⌜ length (now payload) ≤ 65535 ⌝ }
+    requires { ⌜ now used ≤ length (now payload) ⌝ }
+    ensures { λ r. ⌜ answered r (payloadOf (now (payload .exit)) (now (used .exit))) ≡ standardEncoded «byte_order» (now (input .entry)) (payloadOf (now (payload .entry)) (now (used .entry))) «byte_pos» «bit_pos» «base_datatype» (standard .«bit_length» .0) (maskIn (now (store .entry)) standard) ⌝ }
 {
     let bit_len = standard.bit_length;
     let bit_mask = standard.bit_mask;
@@ -52,15 +52,15 @@ fn encode_standard_len(
         Check::Passed => {
             let mask_use = counted_use(described, mask);
             let byte_type = base_datatype.is_byte_type();
-            let packing = pack::pack_data(bit_len, mask_use, mask, input_data.len(), byte_type);
+            let packing = pack::pack_data(bit_len, mask_use, mask, input.len(), byte_type);
             let data_len = packing.data_len;
             cutout::write_source(
                 packing,
-                &input_data[..data_len],
+                &input[..data_len],
                 mask_use,
                 mask,
                 byte_order,
-                uds_payload,
+                payload,
                 used,
                 byte_pos,
                 bit_pos,
@@ -72,27 +72,27 @@ fn encode_standard_len(
 // Whole bytes have no mask.
 fn write_bytes(
     packing: Packing,
-    input_data: &[u8],
+    input: &[u8],
     byte_order: ByteOrder,
-    uds_payload: &mut [u8],
+    payload: &mut [u8],
     used: &mut usize,
     byte_pos: usize,
     bit_pos: usize,
 ) -> Writing
-    requires { ⌜ length (now «input_data») ≤ 65535 ⌝ }
+    requires { ⌜ length (now input) ≤ 65535 ⌝ }
     requires { ⌜ packing .«tail_len» < 2 ^ 32 ⌝ }
-    requires { ⌜ length (now «uds_payload») ≤ 65535 ⌝ }
-    requires { ⌜ now used ≤ length (now «uds_payload») ⌝ }
-    ensures { λ r. ⌜ answered r (payloadOf (now («uds_payload» .exit)) (now (used .exit))) ≡ writing «byte_order» (packedSource packing noMask (now («input_data» .entry))) (payloadOf (now («uds_payload» .entry)) (now (used .entry))) «byte_pos» «bit_pos» ⌝ }
+    requires { ⌜ length (now payload) ≤ 65535 ⌝ }
+    requires { ⌜ now used ≤ length (now payload) ⌝ }
+    ensures { λ r. ⌜ answered r (payloadOf (now (payload .exit)) (now (used .exit))) ≡ writing «byte_order» (packedSource packing noMask (now (input .entry))) (payloadOf (now (payload .entry)) (now (used .entry))) «byte_pos» «bit_pos» ⌝ }
 {
-    let no_mask = &input_data[..0];
+    let no_mask = &input[..0];
     cutout::write_source(
         packing,
-        input_data,
+        input,
         MaskUse::Absent,
         no_mask,
         byte_order,
-        uds_payload,
+        payload,
         used,
         byte_pos,
         bit_pos,
@@ -102,33 +102,25 @@ fn write_bytes(
 // The length field, big-endian, and then the input.
 fn encode_leading_length(
     bit_len: BitLength,
-    input_data: &[u8],
+    input: &[u8],
     byte_order: ByteOrder,
-    uds_payload: &mut [u8],
+    payload: &mut [u8],
     used: &mut usize,
     byte_pos: usize,
     bit_pos: usize,
 ) -> Writing
-    requires { ⌜ length (now «input_data») ≤ 65535 ⌝ }
-    requires { ⌜ length (now «uds_payload») ≤ 65535 ⌝ }
-    requires { ⌜ now used ≤ length (now «uds_payload») ⌝ }
-    ensures { λ r. ⌜ answered r (payloadOf (now («uds_payload» .exit)) (now (used .exit))) ≡ leadingEncoded «byte_order» (now («input_data» .entry)) (payloadOf (now («uds_payload» .entry)) (now (used .entry))) «byte_pos» «bit_pos» («bit_len» .0) ⌝ }
+    requires { ⌜ length (now input) ≤ 65535 ⌝ }
+    requires { ⌜ length (now payload) ≤ 65535 ⌝ }
+    requires { ⌜ now used ≤ length (now payload) ⌝ }
+    ensures { λ r. ⌜ answered r (payloadOf (now (payload .exit)) (now (used .exit))) ≡ leadingEncoded «byte_order» (now (input .entry)) (payloadOf (now (payload .entry)) (now (used .entry))) «byte_pos» «bit_pos» («bit_len» .0) ⌝ }
 {
-    match validate_leading_length(bit_len, input_data.len()) {
+    match validate_leading_length(bit_len, input.len()) {
         Check::Refused(refusal) => Writing::Refused(refusal),
         Check::Passed => {
-            let data_len = input_data.len();
+            let data_len = input.len();
             let total = bit_len.byte_count().bytes() + data_len;
             let packing = pack::frame(ByteCount(total), data_len, data_len, 0, 0);
-            write_bytes(
-                packing,
-                input_data,
-                byte_order,
-                uds_payload,
-                used,
-                byte_pos,
-                bit_pos,
-            )
+            write_bytes(packing, input, byte_order, payload, used, byte_pos, bit_pos)
         }
     }
 }
@@ -137,31 +129,23 @@ fn encode_leading_length(
 fn write_terminated(
     tail: u8,
     tail_len: usize,
-    input_data: &[u8],
+    input: &[u8],
     byte_order: ByteOrder,
-    uds_payload: &mut [u8],
+    payload: &mut [u8],
     used: &mut usize,
     byte_pos: usize,
     bit_pos: usize,
 ) -> Writing
     requires { ⌜ «tail_len» ≤ 2 ⌝ }
-    requires { ⌜ length (now «input_data») ≤ 65535 ⌝ }
-    requires { ⌜ length (now «uds_payload») ≤ 65535 ⌝ }
-    requires { ⌜ now used ≤ length (now «uds_payload») ⌝ }
-    ensures { λ r. ⌜ answered r (payloadOf (now («uds_payload» .exit)) (now (used .exit))) ≡ writing «byte_order» (bytesSource (terminated (now («input_data» .entry)) «tail_len» tail)) (payloadOf (now («uds_payload» .entry)) (now (used .entry))) «byte_pos» «bit_pos» ⌝ }
+    requires { ⌜ length (now input) ≤ 65535 ⌝ }
+    requires { ⌜ length (now payload) ≤ 65535 ⌝ }
+    requires { ⌜ now used ≤ length (now payload) ⌝ }
+    ensures { λ r. ⌜ answered r (payloadOf (now (payload .exit)) (now (used .exit))) ≡ writing «byte_order» (bytesSource (terminated (now (input .entry)) «tail_len» tail)) (payloadOf (now (payload .entry)) (now (used .entry))) «byte_pos» «bit_pos» ⌝ }
 {
-    let data_len = input_data.len();
+    let data_len = input.len();
     let total = data_len + tail_len;
     let packing = pack::frame(ByteCount(total), 0, data_len, tail, tail_len);
-    write_bytes(
-        packing,
-        input_data,
-        byte_order,
-        uds_payload,
-        used,
-        byte_pos,
-        bit_pos,
-    )
+    write_bytes(packing, input, byte_order, payload, used, byte_pos, bit_pos)
 }
 
 // A terminator is as long as a character.
@@ -177,41 +161,32 @@ fn terminator_len(is_unicode: bool) -> usize
 fn encode_min_max_len(
     is_unicode: bool,
     termination: Termination,
-    input_data: &[u8],
+    input: &[u8],
     byte_order: ByteOrder,
-    uds_payload: &mut [u8],
+    payload: &mut [u8],
     used: &mut usize,
     byte_pos: usize,
     bit_pos: usize,
 ) -> Writing
-    requires { ⌜ length (now «input_data») ≤ 65535 ⌝ }
-    requires { ⌜ length (now «uds_payload») ≤ 65535 ⌝ }
-    requires { ⌜ now used ≤ length (now «uds_payload») ⌝ }
-    ensures { λ r. ⌜ answered r (payloadOf (now («uds_payload» .exit)) (now (used .exit))) ≡ minMaxEncoded «byte_order» (now («input_data» .entry)) (payloadOf (now («uds_payload» .entry)) (now (used .entry))) «byte_pos» «bit_pos» «is_unicode» termination ⌝ }
+    requires { ⌜ length (now input) ≤ 65535 ⌝ }
+    requires { ⌜ length (now payload) ≤ 65535 ⌝ }
+    requires { ⌜ now used ≤ length (now payload) ⌝ }
+    ensures { λ r. ⌜ answered r (payloadOf (now (payload .exit)) (now (used .exit))) ≡ minMaxEncoded «byte_order» (now (input .entry)) (payloadOf (now (payload .entry)) (now (used .entry))) «byte_pos» «bit_pos» «is_unicode» termination ⌝ }
 {
     let count = terminator_len(is_unicode);
     match termination {
         Termination::EndOfPdu => {
-            if input_data.len() == 0 {
+            if input.len() == 0 {
                 return Writing::Refused(Refusal::EmptyUntilEndOfPdu);
             }
-            write_terminated(
-                0,
-                0,
-                input_data,
-                byte_order,
-                uds_payload,
-                used,
-                byte_pos,
-                bit_pos,
-            )
+            write_terminated(0, 0, input, byte_order, payload, used, byte_pos, bit_pos)
         }
         Termination::Zero => write_terminated(
             0,
             count,
-            input_data,
+            input,
             byte_order,
-            uds_payload,
+            payload,
             used,
             byte_pos,
             bit_pos,
@@ -219,9 +194,9 @@ fn encode_min_max_len(
         Termination::HexFF => write_terminated(
             0xFF,
             count,
-            input_data,
+            input,
             byte_order,
-            uds_payload,
+            payload,
             used,
             byte_pos,
             bit_pos,
@@ -230,68 +205,53 @@ fn encode_min_max_len(
 }
 
 fn encode_param_len(
-    input_data: &[u8],
+    input: &[u8],
     byte_order: ByteOrder,
-    uds_payload: &mut [u8],
+    payload: &mut [u8],
     used: &mut usize,
     byte_pos: usize,
     bit_pos: usize,
 ) -> Writing
-    requires { ⌜ length (now «input_data») ≤ 65535 ⌝ }
-    requires { ⌜ length (now «uds_payload») ≤ 65535 ⌝ }
-    requires { ⌜ now used ≤ length (now «uds_payload») ⌝ }
-    ensures { λ r. ⌜ answered r (payloadOf (now («uds_payload» .exit)) (now (used .exit))) ≡ paramEncoded «byte_order» (now («input_data» .entry)) (payloadOf (now («uds_payload» .entry)) (now (used .entry))) «byte_pos» «bit_pos» ⌝ }
+    requires { ⌜ length (now input) ≤ 65535 ⌝ }
+    requires { ⌜ length (now payload) ≤ 65535 ⌝ }
+    requires { ⌜ now used ≤ length (now payload) ⌝ }
+    ensures { λ r. ⌜ answered r (payloadOf (now (payload .exit)) (now (used .exit))) ≡ paramEncoded «byte_order» (now (input .entry)) (payloadOf (now (payload .entry)) (now (used .entry))) «byte_pos» «bit_pos» ⌝ }
 {
-    if input_data.len() == 0 {
+    if input.len() == 0 {
         return Writing::Written;
     }
-    write_terminated(
-        0,
-        0,
-        input_data,
-        byte_order,
-        uds_payload,
-        used,
-        byte_pos,
-        bit_pos,
-    )
+    write_terminated(0, 0, input, byte_order, payload, used, byte_pos, bit_pos)
 }
 
 pub fn encode_variant(
     base_datatype: DataType,
     type_: DiagCodedTypeVariant,
     store: &[u8],
-    input_data: &[u8],
+    input: &[u8],
     byte_order: ByteOrder,
-    uds_payload: &mut [u8],
+    payload: &mut [u8],
     used: &mut usize,
     byte_pos: usize,
     bit_pos: usize,
 ) -> Writing
     requires { ⌜ length (now store) ≤ 65535 ⌝ }
-    requires { ⌜ length (now «input_data») ≤ 65535 ⌝ }
-    requires { ⌜ length (now «uds_payload») ≤ 65535 ⌝ }
-    requires { ⌜ now used ≤ length (now «uds_payload») ⌝ }
-    ensures { λ r. ⌜ answered r (payloadOf (now («uds_payload» .exit)) (now (used .exit))) ≡ shapeEncoded «byte_order» (now («input_data» .entry)) (payloadOf (now («uds_payload» .entry)) (now (used .entry))) «byte_pos» «bit_pos» «base_datatype» (shapeOf (now (store .entry)) «type_») ⌝ }
+    requires { ⌜ length (now input) ≤ 65535 ⌝ }
+    requires { ⌜ length (now payload) ≤ 65535 ⌝ }
+    requires { ⌜ now used ≤ length (now payload) ⌝ }
+    ensures { λ r. ⌜ answered r (payloadOf (now (payload .exit)) (now (used .exit))) ≡ shapeEncoded «byte_order» (now (input .entry)) (payloadOf (now (payload .entry)) (now (used .entry))) «byte_pos» «bit_pos» «base_datatype» (shapeOf (now (store .entry)) «type_») ⌝ }
 {
     match type_ {
-        DiagCodedTypeVariant::LeadingLengthInfo(bits) => encode_leading_length(
-            bits,
-            input_data,
-            byte_order,
-            uds_payload,
-            used,
-            byte_pos,
-            bit_pos,
-        ),
+        DiagCodedTypeVariant::LeadingLengthInfo(bits) => {
+            encode_leading_length(bits, input, byte_order, payload, used, byte_pos, bit_pos)
+        }
         DiagCodedTypeVariant::MinMaxLength(limits) => {
             let termination = limits.termination;
             encode_min_max_len(
                 base_datatype.is_unicode(),
                 termination,
-                input_data,
+                input,
                 byte_order,
-                uds_payload,
+                payload,
                 used,
                 byte_pos,
                 bit_pos,
@@ -301,20 +261,15 @@ pub fn encode_variant(
             base_datatype,
             standard,
             store,
-            input_data,
+            input,
             byte_order,
-            uds_payload,
+            payload,
             used,
             byte_pos,
             bit_pos,
         ),
-        DiagCodedTypeVariant::ParamLengthInfo(_) => encode_param_len(
-            input_data,
-            byte_order,
-            uds_payload,
-            used,
-            byte_pos,
-            bit_pos,
-        ),
+        DiagCodedTypeVariant::ParamLengthInfo(_) => {
+            encode_param_len(input, byte_order, payload, used, byte_pos, bit_pos)
+        }
     }
 }

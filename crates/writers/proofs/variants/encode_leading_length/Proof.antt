@@ -16,7 +16,7 @@ use Rattle.writers.proofs.variants.encode_leading_length.Statement.{sta
 use Rattle.writers.proofs.variants.encode_leading_length.Tie as tie
 
 -- nothing was refused
-passed : (c : tie.After-enum-told) → leadingRefusal (c .before .before .before .before .before .args .bit-len .0) (length (c .before .before .before .before .before .args .input-data .now)) ≡ 0
+passed : (c : tie.After-enum-told) → leadingRefusal (c .before .before .before .before .before .args .bit-len .0) (length (c .before .before .before .before .before .args .input .now)) ≡ 0
 passed c = sym (c .before .before .validate-leading-length .ensures) ∙ ap numberOfCheck (c .enum-told .given .1)
 
 validate-leading-length-requires : tie.Need-validate-leading-length-requires
@@ -38,7 +38,7 @@ add-total : tie.Need-add-total
 add-total c = search needs
 
 frame-requires : tie.Need-frame-requires
-frame-requires c κs = let wide = no-wider (c .before .before .before .before .before .before .before .args .bit-len .0) (length (c .before .before .before .before .before .before .before .args .input-data .now)) (passed (c .before .before)) in
+frame-requires c κs = let wide = no-wider (c .before .before .before .before .before .before .before .args .bit-len .0) (length (c .before .before .before .before .before .before .before .args .input .now)) (passed (c .before .before)) in
     omega arith
 
 write-bytes-requires : tie.Need-write-bytes-requires
@@ -46,8 +46,8 @@ write-bytes-requires c κs = let tail = ap (λ (k : Packing). k .«tail_len») (
 
 returns : tie.Need-returns
 returns c = let s = c .before .before .before .before .before .before in
-    let input = s .args .input-data .now in
-    let p = payloadOf (s .args .uds-payload .now) (s .args .used .now) in
+    let input = s .args .input .now in
+    let p = payloadOf (s .args .payload .now) (s .args .used .now) in
     handed (c .before .refusal .given .0 .0) (leadingRefusal (s .args .bit-len .0) (length input)) p (writing (s .args .byte-order) (bytesSource (behindLength (s .args .bit-len .0) input)) p (s .args .byte-pos) (s .args .bit-pos))
     (sym (ap numberOfCheck (c .before .refusal .given .1)) ∙ c .before .before .before .validate-leading-length .ensures) (leading-not-30 (s .args .bit-len .0) (length input))
 
@@ -56,7 +56,7 @@ same-length c = search needs
 
 returns-2 : tie.Need-returns-2
 returns-2 c = let s = c .before .before .before .before .before .before .before .before .before .before .before .before .before in
-    leading-written (s .args .byte-order) (s .args .input-data .now) (payloadOf (s .args .uds-payload .now) (s .args .used .now)) (s .args .byte-pos) (s .args .bit-pos) _ (s .args .bit-len .0) (c .before .before .before .before .before .before .bytes .result) (c .before .before .before .before .before .frame .result) (passed (c .before .before .before .before .before .before .before .before)) (c .before .before .before .before .before .before .bytes .ensures ∙ c .before .before .before .before .before .before .before .byte-count .ensures) (c .before .before .before .before .before .frame .ensures) (c .before .before .write-bytes .ensures)
+    leading-written (s .args .byte-order) (s .args .input .now) (payloadOf (s .args .payload .now) (s .args .used .now)) (s .args .byte-pos) (s .args .bit-pos) _ (s .args .bit-len .0) (c .before .before .before .before .before .before .bytes .result) (c .before .before .before .before .before .frame .result) (passed (c .before .before .before .before .before .before .before .before)) (c .before .before .before .before .before .before .bytes .ensures ∙ c .before .before .before .before .before .before .before .byte-count .ensures) (c .before .before .before .before .before .frame .ensures) (c .before .before .write-bytes .ensures)
 
 pub encode-leading-length-spec : {M : Type 1} → statement M
 encode-leading-length-spec =

@@ -36,21 +36,21 @@ same-length c = search needs
 
 returns-2 : tie.Need-returns-2
 returns-2 c = let s = c .before .before .before .before .before .before .before .before .before .before .before in
-    rw (c .before .before .before .before .before .before .enum-told .given .1) (until-end-written (s .args .byte-order) (s .args .input-data .now) (payloadOf (s .args .uds-payload .now) (s .args .used .now)) (s .args .byte-pos) (s .args .bit-pos) _ (c .before .before .before .before .before .if1 .left) (c .before .before .write-terminated .ensures) (s .args .is-unicode))
+    rw (c .before .before .before .before .before .before .enum-told .given .1) (until-end-written (s .args .byte-order) (s .args .input .now) (payloadOf (s .args .payload .now) (s .args .used .now)) (s .args .byte-pos) (s .args .bit-pos) _ (c .before .before .before .before .before .if1 .left) (c .before .before .write-terminated .ensures) (s .args .is-unicode))
 
 same-length-2 : tie.Need-same-length-2
 same-length-2 c = search needs
 
 returns-3 : tie.Need-returns-3
 returns-3 c = let s = c .before .before .before .before .before .before .before .before .before .before in
-    rw (c .before .before .before .before .before .enum-told2 .given .1) (zero-written (s .args .byte-order) (s .args .input-data .now) (payloadOf (s .args .uds-payload .now) (s .args .used .now)) (s .args .byte-pos) (s .args .bit-pos) _ (s .args .is-unicode) (c .before .before .before .before .before .before .before .terminator-len .result) (c .before .before .before .before .before .before .before .terminator-len .ensures) (c .before .before .write-terminated2 .ensures))
+    rw (c .before .before .before .before .before .enum-told2 .given .1) (zero-written (s .args .byte-order) (s .args .input .now) (payloadOf (s .args .payload .now) (s .args .used .now)) (s .args .byte-pos) (s .args .bit-pos) _ (s .args .is-unicode) (c .before .before .before .before .before .before .before .terminator-len .result) (c .before .before .before .before .before .before .before .terminator-len .ensures) (c .before .before .write-terminated2 .ensures))
 
 same-length-3 : tie.Need-same-length-3
 same-length-3 c = search needs
 
 returns-4 : tie.Need-returns-4
 returns-4 c = let s = c .before .before .before .before .before .before .before .before .before .before in
-    rw (c .before .before .before .before .before .enum-told3 .given .1) (hex-ff-written (s .args .byte-order) (s .args .input-data .now) (payloadOf (s .args .uds-payload .now) (s .args .used .now)) (s .args .byte-pos) (s .args .bit-pos) _ (s .args .is-unicode) (c .before .before .before .before .before .before .before .terminator-len .result) (c .before .before .before .before .before .before .before .terminator-len .ensures) (c .before .before .write-terminated3 .ensures))
+    rw (c .before .before .before .before .before .enum-told3 .given .1) (hex-ff-written (s .args .byte-order) (s .args .input .now) (payloadOf (s .args .payload .now) (s .args .used .now)) (s .args .byte-pos) (s .args .bit-pos) _ (s .args .is-unicode) (c .before .before .before .before .before .before .before .terminator-len .result) (c .before .before .before .before .before .before .before .terminator-len .ensures) (c .before .before .write-terminated3 .ensures))
 
 pub encode-min-max-len-spec : {M : Type 1} → statement M
 encode-min-max-len-spec =

@@ -16,7 +16,7 @@ same-length c = search needs
 
 returns-2 : tie.Need-returns-2
 returns-2 c = let s = c .before .before .before .before .before .before .before .before in
-    param-written (s .args .byte-order) (s .args .input-data .now) (payloadOf (s .args .uds-payload .now) (s .args .used .now)) (s .args .byte-pos) (s .args .bit-pos) _ (c .before .before .before .before .before .if1 .left) (c .before .before .write-terminated .ensures)
+    param-written (s .args .byte-order) (s .args .input .now) (payloadOf (s .args .payload .now) (s .args .used .now)) (s .args .byte-pos) (s .args .bit-pos) _ (c .before .before .before .before .before .if1 .left) (c .before .before .write-terminated .ensures)
 
 pub encode-param-len-spec : {M : Type 1} → statement M
 encode-param-len-spec =

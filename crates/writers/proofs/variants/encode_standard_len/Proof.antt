@@ -35,10 +35,10 @@ passed : (c : tie.After-enum-told) → standardRefusal (c .before .before .befor
 passed c = sym (c .before .before .validate-standard .ensures) ∙ ap numberOfCheck (c .enum-told .given .1)
 
 -- the packing keeps its bounds
-within : (c : tie.After-pack-data) → (c .pack-data .result .«data_len» ≤ length (c .before .before .before .before .before .before .before .before .before .before .before .before .args .input-data .now))
+within : (c : tie.After-pack-data) → (c .pack-data .result .«data_len» ≤ length (c .before .before .before .before .before .before .before .before .before .before .before .before .args .input .now))
     × (c .pack-data .result .«tail_len» ≤ bytesFor (c .before .before .before .before .before .before .before .before .before .before .before .before .args .standard .«bit_length» .0))
     × (c .pack-data .result .«bit_len» .0 ≡ sizeUnder (maskOf (c .before .before .counted-use .result) (c .before .before .before .before .before .before .placed-part .result .now)) (c .pack-data .result .«bit_len» .0))
-within c = packed-within (c .pack-data .result) (maskOf (c .before .before .counted-use .result) (c .before .before .before .before .before .before .placed-part .result .now)) (c .before .is-byte-type .result) (c .before .before .before .before .before .before .before .before .before .before .before .before .args .standard .«bit_length» .0) (length (c .before .before .before .before .before .before .before .before .before .before .before .before .args .input-data .now)) (c .pack-data .ensures)
+within c = packed-within (c .pack-data .result) (maskOf (c .before .before .counted-use .result) (c .before .before .before .before .before .before .placed-part .result .now)) (c .before .is-byte-type .result) (c .before .before .before .before .before .before .before .before .before .before .before .before .args .standard .«bit_length» .0) (length (c .before .before .before .before .before .before .before .before .before .before .before .before .args .input .now)) (c .pack-data .ensures)
 
 mask-use-requires : tie.Need-mask-use-requires
 mask-use-requires c κs = search needs
@@ -65,12 +65,12 @@ pack-data-requires : tie.Need-pack-data-requires
 pack-data-requires c κs = mask-fits (c .before .before .before .before .before)
 
 slice-aggregate-write-source : tie.Need-slice-aggregate-write-source
-slice-aggregate-write-source c = sym (length-take-le (c .before .pack-data .result .«data_len») (c .before .before .before .before .before .before .before .before .before .before .before .before .before .args .input-data .now) (within (c .before) .0))
+slice-aggregate-write-source c = sym (length-take-le (c .before .pack-data .result .«data_len») (c .before .before .before .before .before .before .before .before .before .before .before .before .before .args .input .now) (within (c .before) .0))
 
 write-source-requires : tie.Need-write-source-requires
 write-source-requires c κs = let s = c .before .before .before .before .before .before .before .before .before .before .before .before .before .before .before in
     let w = within (c .before .before .before) in
-    let some = length-take (c .before .before .before .pack-data .result .«data_len») (s .args .input-data .now) in
+    let some = length-take (c .before .before .before .pack-data .result .«data_len») (s .args .input .now) in
     (omega arith, (omega arith, (s .pre .1 .1 .0, (s .pre .1 .1 .1, w .2))))
 
 returns : tie.Need-returns
@@ -78,10 +78,10 @@ returns c = let s = c .before .before .before .before .before .before .before .b
     let t = s .args .base-datatype in
     let len = s .args .standard .«bit_length» .0 in
     let mask = maskOf (c .before .before .before .before .before .mask-use .result) (c .before .before .before .before .placed-part .result .now) in
-    let p = payloadOf (s .args .uds-payload .now) (s .args .used .now) in
-    handed (c .before .refusal .given .0 .0) (standardRefusal t len mask) p (writing (s .args .byte-order) (standardSource t len (counted mask) (s .args .input-data .now)) p (s .args .byte-pos) (s .args .bit-pos))
+    let p = payloadOf (s .args .payload .now) (s .args .used .now) in
+    handed (c .before .refusal .given .0 .0) (standardRefusal t len mask) p (writing (s .args .byte-order) (standardSource t len (counted mask) (s .args .input .now)) p (s .args .byte-pos) (s .args .bit-pos))
     (sym (ap numberOfCheck (c .before .refusal .given .1)) ∙ c .before .before .before .validate-standard .ensures) (standard-not-30 t len mask)
-    ∙ ap (standardEncoded (s .args .byte-order) (s .args .input-data .now) p (s .args .byte-pos) (s .args .bit-pos) t len) (mask-is (c .before .before .before .before))
+    ∙ ap (standardEncoded (s .args .byte-order) (s .args .input .now) p (s .args .byte-pos) (s .args .bit-pos) t len) (mask-is (c .before .before .before .before))
 
 same-length : tie.Need-same-length
 same-length c = search needs
@@ -91,9 +91,9 @@ returns-2 c = let s = c .before .before .before .before .before .before .before 
     let t = s .args .base-datatype in
     let len = s .args .standard .«bit_length» .0 in
     let mask = maskOf (c .before .before .before .before .before .before .before .before .before .before .before .before .before .mask-use .result) (c .before .before .before .before .before .before .before .before .before .before .before .before .placed-part .result .now) in
-    let p = payloadOf (s .args .uds-payload .now) (s .args .used .now) in
-    standard-written (s .args .byte-order) (s .args .input-data .now) p (s .args .byte-pos) (s .args .bit-pos) _ t len mask (maskOf (c .before .before .before .before .before .before .before .before .counted-use .result) (c .before .before .before .before .before .before .before .before .before .before .before .before .placed-part .result .now)) (c .before .before .before .before .before .before .before .is-byte-type .result) (c .before .before .before .before .before .before .pack-data .result) (passed (c .before .before .before .before .before .before .before .before .before)) (c .before .before .before .before .before .before .before .before .counted-use .ensures) (c .before .before .before .before .before .before .before .is-byte-type .ensures) (c .before .before .before .before .before .before .pack-data .ensures) (c .before .before .write-source .ensures)
-    ∙ ap (standardEncoded (s .args .byte-order) (s .args .input-data .now) p (s .args .byte-pos) (s .args .bit-pos) t len) (mask-is (c .before .before .before .before .before .before .before .before .before .before .before .before))
+    let p = payloadOf (s .args .payload .now) (s .args .used .now) in
+    standard-written (s .args .byte-order) (s .args .input .now) p (s .args .byte-pos) (s .args .bit-pos) _ t len mask (maskOf (c .before .before .before .before .before .before .before .before .counted-use .result) (c .before .before .before .before .before .before .before .before .before .before .before .before .placed-part .result .now)) (c .before .before .before .before .before .before .before .is-byte-type .result) (c .before .before .before .before .before .before .pack-data .result) (passed (c .before .before .before .before .before .before .before .before .before)) (c .before .before .before .before .before .before .before .before .counted-use .ensures) (c .before .before .before .before .before .before .before .is-byte-type .ensures) (c .before .before .before .before .before .before .pack-data .ensures) (c .before .before .write-source .ensures)
+    ∙ ap (standardEncoded (s .args .byte-order) (s .args .input .now) p (s .args .byte-pos) (s .args .bit-pos) t len) (mask-is (c .before .before .before .before .before .before .before .before .before .before .before .before))
 
 pub encode-standard-len-spec : {M : Type 1} → statement M
 encode-standard-len-spec =

@@ -47,7 +47,7 @@ returns-2 : tie.Need-returns-2
 returns-2 c = let s = c .before .before .before .before .before .before .before .before .before .before .before .before in
     rw (c .before .before .before .before .before .before .before .type-2 .given .1)
     (c .before .before .encode-min-max-len .ensures
-    ∙ ap (λ (u : Bool). minMaxEncoded (s .args .byte-order) (s .args .input-data .now) (payloadOf (s .args .uds-payload .now) (s .args .used .now)) (s .args .byte-pos) (s .args .bit-pos) u (c .before .before .before .before .before .before .before .type-2 .given .0 .0 .termination)) (c .before .before .before .before .before .is-unicode .ensures))
+    ∙ ap (λ (u : Bool). minMaxEncoded (s .args .byte-order) (s .args .input .now) (payloadOf (s .args .payload .now) (s .args .used .now)) (s .args .byte-pos) (s .args .bit-pos) u (c .before .before .before .before .before .before .before .type-2 .given .0 .0 .termination)) (c .before .before .before .before .before .is-unicode .ensures))
 
 same-length-3 : tie.Need-same-length-3
 same-length-3 c = search needs

@@ -22,7 +22,7 @@ same-length c = search needs
 
 returns : tie.Need-returns
 returns c = let s = c .before .before .before .before .before .before .before .before in
-    terminated-written (s .args .byte-order) (s .args .input-data .now) (payloadOf (s .args .uds-payload .now) (s .args .used .now)) (s .args .byte-pos) (s .args .bit-pos) _ (s .args .tail-len) (s .args .tail) (c .before .before .before .before .before .frame .result) (c .before .before .before .before .before .frame .ensures) (c .before .before .write-bytes .ensures)
+    terminated-written (s .args .byte-order) (s .args .input .now) (payloadOf (s .args .payload .now) (s .args .used .now)) (s .args .byte-pos) (s .args .bit-pos) _ (s .args .tail-len) (s .args .tail) (c .before .before .before .before .before .frame .result) (c .before .before .before .before .before .frame .ensures) (c .before .before .write-bytes .ensures)
 
 pub write-terminated-spec : {M : Type 1} → statement M
 write-terminated-spec =
