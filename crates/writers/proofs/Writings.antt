@@ -21,20 +21,20 @@ use Rattle.cutout.specs.Answers.{Payload, Encoded}
 use Rattle.cutout.specs.CutOut.{writing}
 use Rattle.cutout.proofs.Ways.{after-none}
 use Rattle.cutout.proofs.Likeness.{writing-alike}
-use Rattle.writers.specs.Refusals.{standardRefusal, leadingRefusal}
+use Rattle.writers.specs.Refusals.{standardRefusal, countRefusal}
 use Rattle.writers.specs.Shapes.{standardEncoded, leadingEncoded, minMaxEncoded, paramEncoded}
 
 -- ---- Leading
 
 -- a length field that is not refused is no wider than a count
-pub no-wider : (bits n : ℕ) → leadingRefusal bits n ≡ 0 → bits ≤ 64
+pub no-wider : (bits n : ℕ) → countRefusal bits n ≡ 0 → bits ≤ 64
 no-wider bits n z =
     let holds = rule-zero (ltb bits 64 && leb (2 ^ bits) n) 33 _ refl z in
     ltb-false 64 bits (rule-zero (ltb 64 bits) 32 _ refl (holds .1) .0)
 
 module _ (o : ByteOrder) (input : List ℕ) (p : Payload) (at pos : ℕ) (e : Encoded) where
   -- the field takes m bytes
-  pub leading-written : (bits m : ℕ) (k : Packing) → leadingRefusal bits (length input) ≡ 0 → m ≡ bytesFor bits
+  pub leading-written : (bits m : ℕ) (k : Packing) → countRefusal bits (length input) ≡ 0 → m ≡ bytesFor bits
       → k ≡ framing (8 * (m + length input)) (length input) (length input) 0 0 → e ≡ writing o (packedSource k noMask input) p at pos
       → e ≡ leadingEncoded o input p at pos bits
   leading-written bits m k z em ek h =
@@ -42,7 +42,7 @@ module _ (o : ByteOrder) (input : List ℕ) (p : Payload) (at pos : ℕ) (e : En
       let q = framing (8 * (bytesFor bits + length input)) (length input) (length input) 0 0 in
       h
       ∙ rw (ek, em) (writing-alike o (packedSource q noMask input) s (leading-alike bits input (no-wider bits (length input) z)) p at pos)
-      ∙ sym (after-none (leadingRefusal bits (length input)) p (writing o s p at pos) z)
+      ∙ sym (after-none (countRefusal bits (length input)) p (writing o s p at pos) z)
 
   -- ---- Standard
 

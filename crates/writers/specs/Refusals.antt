@@ -22,8 +22,8 @@ abbrev pub standardRefusal : DataType → ℕ → Mask → ℕ
 standardRefusal t len mask = orElse (bitLengthRefusal t len) (firstOf (rule (ltb len (condensedBits mask)) 36 ∷ []))
 
 -- Leading, with n bytes of input: 33, 32, 38
-abbrev pub leadingRefusal : ℕ → ℕ → ℕ
-leadingRefusal bits n =
+abbrev pub countRefusal : ℕ → ℕ → ℕ
+countRefusal bits n =
     firstOf
     (rule (ltb bits 64 && leb (2 ^ bits) n) 33
     ∷ rule (ltb 64 bits) 32
@@ -36,5 +36,5 @@ untilEndOfPdu Zero = false
 untilEndOfPdu HexFF = false
 
 -- MinMax, with n bytes of input: 35
-abbrev pub minMaxRefusal : Termination → ℕ → ℕ
-minMaxRefusal t n = firstOf (rule (untilEndOfPdu t && eqb n 0) 35 ∷ [])
+abbrev pub emptyRefusal : Termination → ℕ → ℕ
+emptyRefusal t n = firstOf (rule (untilEndOfPdu t && eqb n 0) 35 ∷ [])

@@ -14,7 +14,7 @@ use Rattle.field.specs.Field.{Shape, leading, minMax, standard, param}
 use Rattle.pack.specs.Source.{bytesSource, counted, standardSource, behindLength, terminated}
 use Rattle.cutout.specs.Answers.{Payload, Encoded, done, after}
 use Rattle.cutout.specs.CutOut.{writing}
-use Rattle.writers.specs.Refusals.{standardRefusal, leadingRefusal, minMaxRefusal}
+use Rattle.writers.specs.Refusals.{standardRefusal, countRefusal, emptyRefusal}
 
 -- the input, then 00 or FF, twice for Unicode2String
 abbrev pub withTerminator : Termination → Bool → List ℕ → List ℕ
@@ -29,11 +29,11 @@ module _ (o : ByteOrder) (input : List ℕ) (p : Payload) (at pos : ℕ) where
 
   -- 33, 32, 38, 40
   abbrev pub leadingEncoded : ℕ → Encoded
-  leadingEncoded bits = after (leadingRefusal bits (length input)) p (writing o (bytesSource (behindLength bits input)) p at pos)
+  leadingEncoded bits = after (countRefusal bits (length input)) p (writing o (bytesSource (behindLength bits input)) p at pos)
 
   -- 35, 40; min and max are not looked at
   abbrev pub minMaxEncoded : Bool → Termination → Encoded
-  minMaxEncoded unicode e = after (minMaxRefusal e (length input)) p (writing o (bytesSource (withTerminator e unicode input)) p at pos)
+  minMaxEncoded unicode e = after (emptyRefusal e (length input)) p (writing o (bytesSource (withTerminator e unicode input)) p at pos)
 
   -- an empty input succeeds and changes nothing, otherwise 26, 40
   abbrev pub paramEncoded : Encoded

@@ -7,7 +7,7 @@ ghost use lib.Dec.{ltb};
 ghost use Rattle.kinds.specs.Answers.{numberOfCheck};
 ghost use Rattle.masks.specs.Mask.{maskOf};
 ghost use Rattle.pack.specs.Source.{counted};
-ghost use Rattle.writers.specs.Refusals.{standardRefusal, leadingRefusal};
+ghost use Rattle.writers.specs.Refusals.{standardRefusal, countRefusal};
 use kinds::BitLength;
 use kinds::ByteCount;
 use kinds::Check;
@@ -48,7 +48,7 @@ pub fn validate_standard(
 
 // 33, 32 and 38. No shift reaches 64: a field of 64 bits holds every byte count.
 pub fn validate_leading_length(bit_len: BitLength, data_len: usize) -> Check
-    ensures { λ r. ⌜ numberOfCheck r ≡ leadingRefusal («bit_len» .0) «data_len» ⌝ }
+    ensures { λ r. ⌜ numberOfCheck r ≡ countRefusal («bit_len» .0) «data_len» ⌝ }
 {
     let bits = bit_len.bits();
     if 64 < bits {

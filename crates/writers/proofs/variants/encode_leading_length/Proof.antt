@@ -8,7 +8,7 @@ use Rattle.pack.specs.Source.{bytesSource, behindLength}
 use Rattle.cutout.specs.Answers.{payloadOf}
 use Rattle.cutout.specs.CutOut.{writing}
 use Rattle.cutout.proofs.Ways.{handed}
-use Rattle.writers.specs.Refusals.{leadingRefusal}
+use Rattle.writers.specs.Refusals.{countRefusal}
 use Rattle.writers.proofs.Numbers.{leading-not-30}
 use Rattle.writers.proofs.Writings.{no-wider, leading-written}
 use borrow.Author.Needs.{needs}
@@ -16,7 +16,7 @@ use Rattle.writers.proofs.variants.encode_leading_length.Statement.{sta
 use Rattle.writers.proofs.variants.encode_leading_length.Tie as tie
 
 -- nothing was refused
-passed : (c : tie.After-enum-told) → leadingRefusal (c .before .before .before .before .before .args .bit-len .0) (length (c .before .before .before .before .before .args .input .now)) ≡ 0
+passed : (c : tie.After-enum-told) → countRefusal (c .before .before .before .before .before .args .bit-len .0) (length (c .before .before .before .before .before .args .input .now)) ≡ 0
 passed c = sym (c .before .before .validate-leading-length .ensures) ∙ ap numberOfCheck (c .enum-told .given .1)
 
 validate-leading-length-requires : tie.Need-validate-leading-length-requires
@@ -48,7 +48,7 @@ returns : tie.Need-returns
 returns c = let s = c .before .before .before .before .before .before in
     let input = s .args .input .now in
     let p = payloadOf (s .args .payload .now) (s .args .used .now) in
-    handed (c .before .refusal .given .0 .0) (leadingRefusal (s .args .bit-len .0) (length input)) p (writing (s .args .byte-order) (bytesSource (behindLength (s .args .bit-len .0) input)) p (s .args .byte-pos) (s .args .bit-pos))
+    handed (c .before .refusal .given .0 .0) (countRefusal (s .args .bit-len .0) (length input)) p (writing (s .args .byte-order) (bytesSource (behindLength (s .args .bit-len .0) input)) p (s .args .byte-pos) (s .args .bit-pos))
     (sym (ap numberOfCheck (c .before .refusal .given .1)) ∙ c .before .before .before .validate-leading-length .ensures) (leading-not-30 (s .args .bit-len .0) (length input))
 
 same-length : tie.Need-same-length
