@@ -1,7 +1,3 @@
--- `Splices` has the laws of a part that is changed, `Cleared` those of owned bits, `Ways` a law for each way to an answer, `Written` what
--- the calls of a write leave, and `Likeness` that sources with the same bits are written alike.
-pub mod Splices
+-- `Cleared` has the laws of owned bits, and `Puts` what calls leave of a cut-out.
 pub mod Cleared
-pub mod Ways
-pub mod Written
-pub mod Likeness
+pub mod Puts

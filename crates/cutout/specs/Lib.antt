@@ -1,4 +1,2 @@
--- `Answers` has what an encode or a clear answers, and `CutOut` what becomes of a payload when a source is put into it or a field's bits
--- are cleared.
-pub mod Answers
+-- What becomes of an ordered cut-out when a source is put into it or a field's bits are cleared.
 pub mod CutOut

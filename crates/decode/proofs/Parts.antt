@@ -8,8 +8,8 @@ use lib.Dec.{eqb}
 use borrow.Author.Tests.{ne-eqb, lt-ltb, le-ltb}
 use Rattle.kinds.specs.Slices.{sum, cut}
 use Rattle.unpack.specs.Answers.{Finding, after}
+use Rattle.readers.proofs.Places.{length-cut}
 use Rattle.decode.specs.Runtime.{runtimeFinding, lent, lentWith}
-use Rattle.decode.proofs.Places.{length-cut}
 
 -- a number that is given first, and is not 30
 pub lent-refused : (n : ℕ) (f : Finding) (actual : ℕ) → eqb n 0 ≡ false → eqb n 30 ≡ false → lentWith (n ∷ 0 ∷ 0 ∷ 0 ∷ 0 ∷ []) [] ≡ lent (after n f) actual

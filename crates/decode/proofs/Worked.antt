@@ -19,12 +19,12 @@ use Rattle.order.specs.Order.{ordered, swapPairs}
 use Rattle.bits.specs.Bits.{bit, bitAt, number, packed}
 use Rattle.bits.specs.Moves.{extracted, overlaid}
 use Rattle.masks.specs.Plain.{maskBit}
-use Rattle.masks.specs.Condensed.{frontBit, gathered, onesOf, condensed}
-use Rattle.positions.specs.Leading.{leadingCount}
-use Rattle.positions.specs.MinMax.{scan}
+use Rattle.condensed.specs.Condensed.{frontBit, gathered, onesOf, condensed}
+use Rattle.length_field.specs.Leading.{leadingCount}
+use Rattle.scans.specs.MinMax.{scan}
 use Rattle.unpack.specs.Answers.{Decoded, answer}
 use Rattle.unpack.specs.Unpacked.{unpacked}
-use Rattle.decode.specs.Finding.{fieldFinding, leadingFinding, minMaxFinding}
+use Rattle.readers.specs.Finding.{fieldFinding, leadingFinding, minMaxFinding}
 use Rattle.decode.specs.Decode.{decoded}
 use Rattle.decode.specs.Runtime.{Lent, listed, runtimeRead}
 

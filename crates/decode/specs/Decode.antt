@@ -7,7 +7,7 @@ use Rattle.coded.specs.declared.coded_type.DiagCodedType.{DiagCodedType}
 use Rattle.field.specs.Field.{Field, fieldOf}
 use Rattle.field.specs.Refusals.{callRefusal}
 use Rattle.unpack.specs.Answers.{Finding, after, Decoded, answer}
-use Rattle.decode.specs.Finding.{shapeFinding}
+use Rattle.readers.specs.Finding.{shapeFinding}
 
 -- 20, and then the variant's own
 abbrev pub finding : Field → List ℕ → ℕ → ℕ → Finding

@@ -1,6 +1,3 @@
--- `Finding` has what each variant finds, `Decode` the answer of a decode, `Runtime` that of a read with a length given, and `Located`
--- what is read at a place that was found.
-pub mod Finding
+-- `Decode` has the answer of a decode, and `Runtime` that of a read with a length given.
 pub mod Decode
 pub mod Runtime
-pub mod Located

@@ -3,11 +3,11 @@ ghost use mathlib.Core.Path.{_≡_};
 ghost use Rattle.unpack.specs.Answers.{answered};
 ghost use Rattle.decode.specs.Decode.{decoded};
 ghost use Rattle.decode.specs.Runtime.{lentWith, runtimeRead};
-use super::variants::decode_variant;
 use coded::DiagCodedType;
 use kinds::ByteCount;
 use kinds::Check;
 use kinds::Reading;
+use readers::decode_variant;
 
 // Reads a field at a byte position and a bit position into the output. Masks are parts of the store.
 pub fn decode(

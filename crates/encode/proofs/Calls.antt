@@ -14,8 +14,8 @@ use Rattle.coded.specs.declared.coded_type.DiagCodedType.{DiagCodedType}
 use Rattle.field.specs.Field.{shapeOf, fieldOf}
 use Rattle.field.specs.Refusals.{writeCallRefusal}
 use Rattle.field.proofs.Numbers.{write-call-not-30}
-use Rattle.cutout.specs.Answers.{Encoded, payloadOf, answered}
-use Rattle.cutout.proofs.Ways.{handed, after-none}
+use Rattle.payload.specs.Answers.{Encoded, payloadOf, answered}
+use Rattle.payload.proofs.Ways.{handed, after-none}
 use Rattle.writers.specs.Shapes.{shapeEncoded}
 use Rattle.encode.specs.Encode.{encodeOf, encoded}
 use Rattle.encode.specs.Clear.{clearOf, clearedField}

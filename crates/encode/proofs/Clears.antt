@@ -10,9 +10,9 @@ use Rattle.kinds.specs.Types.{isByteType}
 use Rattle.kinds.specs.Answers.{numberOf}
 use Rattle.masks.specs.Mask.{Mask}
 use Rattle.pack.specs.Source.{counted, sizeUnder}
-use Rattle.cutout.specs.Answers.{Payload, Encoded, refusedWith, answered}
-use Rattle.cutout.specs.CutOut.{clearing}
-use Rattle.cutout.proofs.Ways.{handed}
+use Rattle.payload.specs.Answers.{Payload, Encoded, refusedWith, answered}
+use Rattle.payload.specs.Writing.{clearing}
+use Rattle.payload.proofs.Ways.{handed}
 use Rattle.writers.specs.Refusals.{standardRefusal}
 use Rattle.encode.specs.Clear.{standardCleared}
 use Rattle.writers.proofs.Numbers.{standard-not-30}

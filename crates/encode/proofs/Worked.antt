@@ -20,10 +20,11 @@ use Rattle.order.specs.Order.{ordered, swapPairs}
 use Rattle.bits.specs.Bits.{bit, bitAt, number, packed}
 use Rattle.bits.specs.Moves.{injected, overlaid}
 use Rattle.masks.specs.Plain.{maskBit}
-use Rattle.masks.specs.Condensed.{onesBelow, replacement, replaced}
+use Rattle.condensed.specs.Condensed.{onesBelow, replacement, replaced}
 use Rattle.pack.specs.Source.{standardBits}
-use Rattle.cutout.specs.Answers.{Encoded, payloadOf}
-use Rattle.cutout.specs.CutOut.{cleared, readied, spliced, inCutOut, grown, writing, clearing}
+use Rattle.cutout.specs.CutOut.{cleared, readied}
+use Rattle.payload.specs.Answers.{Encoded, payloadOf}
+use Rattle.payload.specs.Writing.{spliced, inCutOut, grown, writing, clearing}
 use Rattle.encode.specs.Encode.{encoded}
 use Rattle.encode.specs.Clear.{clearedField}
 

@@ -11,8 +11,8 @@ use Rattle.masks.specs.Mask.{Mask}
 use Rattle.field.specs.Field.{Shape, leading, minMax, standard, param, Field, fieldOf}
 use Rattle.field.specs.Refusals.{writeCallRefusal}
 use Rattle.pack.specs.Source.{counted, sizeUnder}
-use Rattle.cutout.specs.Answers.{Payload, Encoded, after, refusedWith}
-use Rattle.cutout.specs.CutOut.{clearing}
+use Rattle.payload.specs.Answers.{Payload, Encoded, after, refusedWith}
+use Rattle.payload.specs.Writing.{clearing}
 use Rattle.writers.specs.Refusals.{standardRefusal}
 
 module _ (t : DataType) (o : ByteOrder) (p : Payload) (at pos : ℕ) where

@@ -6,7 +6,7 @@ use Rattle.kinds.specs.Refusals.{bitPositionRefusal}
 use Rattle.coded.specs.declared.coded_type.DiagCodedType.{DiagCodedType}
 use Rattle.field.specs.Field.{Field, fieldOf}
 use Rattle.field.specs.Refusals.{writeCallRefusal}
-use Rattle.cutout.specs.Answers.{Payload, Encoded, after}
+use Rattle.payload.specs.Answers.{Payload, Encoded, after}
 use Rattle.writers.specs.Shapes.{shapeEncoded}
 
 -- 20, and then the variant's own

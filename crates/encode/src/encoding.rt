@@ -3,7 +3,7 @@ ghost use mathlib.Core.Path.{_≡_};
 ghost use Prim.Native.Nat.{_≤_};
 ghost use lib.ListN.{length};
 ghost use Rattle.field.specs.Field.{maskIn};
-ghost use Rattle.cutout.specs.Answers.{payloadOf, answered};
+ghost use Rattle.payload.specs.Answers.{payloadOf, answered};
 ghost use Rattle.encode.specs.Encode.{encoded};
 ghost use Rattle.encode.specs.Clear.{standardCleared, clearedField};
 use coded::DiagCodedType;
@@ -88,7 +88,7 @@ fn clear_standard_len(
         Check::Passed => {
             let mask_use = counted_use(described, mask);
             let packing = pack::pack_data(bit_len, mask_use, mask, 0, false);
-            cutout::clear_source(
+            payload::clear_source(
                 packing.bit_len,
                 mask_use,
                 mask,

@@ -1,4 +1,3 @@
--- `Mask` has what a mask may be, `Plain` masks in plain use, and `Condensed` those that gather and put apart.
+-- `Mask` has what a mask may be, and `Plain` masks in plain use.
 pub mod Mask
 pub mod Plain
-pub mod Condensed

@@ -17,7 +17,7 @@ use Rattle.bits.proofs.Moves.{bits-cond}
 use Rattle.masks.specs.Mask.{Mask, noMask, plainMask, condensedMask}
 use Rattle.masks.specs.Plain.{maskBit}
 use Rattle.masks.proofs.Masked.{maskBit-lt}
-use Rattle.masks.proofs.Replaced.{bits-replaced}
+use Rattle.condensed.proofs.Replaced.{bits-replaced}
 use Rattle.pack.specs.declared.Packing.{Packing}
 use Rattle.pack.specs.Packing.{framedBit, packedBit, packedBitsUnder, aligning}
 

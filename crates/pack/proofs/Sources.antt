@@ -19,7 +19,7 @@ use Rattle.bits.proofs.Bytes.{bitAt-out, bitAt-packed, length-packed}
 use Rattle.bits.proofs.Runs.{bitAt-append-low, bitAt-append-high, bitAt-replicate, bitAt-drop}
 use Rattle.masks.specs.Mask.{Mask, noMask, plainMask, condensedMask}
 use Rattle.masks.specs.Plain.{maskBit}
-use Rattle.masks.specs.Condensed.{replaced}
+use Rattle.condensed.specs.Condensed.{replaced}
 use Rattle.pack.specs.declared.Packing.{Packing}
 use Rattle.pack.specs.Source.{Source, bytesSource, lastBytes, firstBytes, standardBits, sizeUnder, standardSource, behindLength, terminated}
 use Rattle.pack.specs.Packing.{framedBit, packedBit, packedSource, framing, aligning, packing}

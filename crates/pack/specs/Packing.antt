@@ -8,7 +8,7 @@ use Rattle.kinds.specs.Types.{bytesFor}
 use Rattle.bits.specs.Bits.{bit, bitAt}
 use Rattle.masks.specs.Mask.{Mask, noMask, plainMask, condensedMask}
 use Rattle.masks.specs.Plain.{maskBit}
-use Rattle.masks.specs.Condensed.{replaced}
+use Rattle.condensed.specs.Condensed.{replaced}
 use Rattle.pack.specs.declared.Packing.{Packing}
 use Rattle.pack.specs.Source.{Source}
 

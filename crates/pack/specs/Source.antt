@@ -9,7 +9,7 @@ use Rattle.kinds.specs.Types.{isByteType, bytesFor}
 use Rattle.bits.specs.Bits.{bit, bitAt, packed}
 use Rattle.masks.specs.Mask.{Mask, noMask, plainMask, condensedMask}
 use Rattle.masks.specs.Plain.{maskBit}
-use Rattle.masks.specs.Condensed.{replaced}
+use Rattle.condensed.specs.Condensed.{replaced}
 
 -- what is written: how many bits, which, from the lowest, and the mask under which they are written
 pub record Source : Type 0 where

@@ -1,4 +1,2 @@
--- Where the data bytes of a field are that finds its own length: `Located` has the answer, `Leading` and `MinMax` the two ways.
+-- `Located` has where a field's bits are, or what the search for them reports.
 pub mod Located
-pub mod Leading
-pub mod MinMax

@@ -9,8 +9,8 @@ use Rattle.bits.specs.Bits.{bitAt, packed}
 use Rattle.bits.specs.Moves.{from, extracted}
 use Rattle.bits.proofs.Moves.{length-extracted, length-overlaid}
 use Rattle.masks.specs.Mask.{plainIf, condensedMask}
-use Rattle.masks.specs.Condensed.{picked, bitsOf, condensedBytes}
-use Rattle.masks.proofs.Size.{condensed-packed, length-condensed}
+use Rattle.condensed.specs.Condensed.{picked, bitsOf, condensedBytes}
+use Rattle.condensed.proofs.Size.{condensed-packed, length-condensed}
 use Rattle.unpack.specs.Unpacked.{bitCount, unpacked}
 
 pub length-plain : (masked : Bool) (mask : List ℕ) (len pos : ℕ) (xs : List ℕ) → length (unpacked (plainIf masked mask) len pos xs) ≡ bytesFor len

@@ -9,7 +9,7 @@ use Rattle.bits.specs.Moves.{from, extracted}
 use Rattle.masks.specs.declared.plain.Kept.the-variants.{UnderOnes}
 use Rattle.masks.specs.Mask.{Mask, noMask, plainMask, condensedMask}
 use Rattle.masks.specs.Plain.{masked}
-use Rattle.masks.specs.Condensed.{condensedCount, condensed}
+use Rattle.condensed.specs.Condensed.{condensedCount, condensed}
 use Rattle.unpack.specs.Answers.{Finding}
 
 -- 26: bit position above 7; 27: bit position + length above 8 x cut bytes

@@ -86,13 +86,13 @@ fn apply_condensed_mask_unpacking(
     requires { ⌜ «bit_pos» + «bit_len» .0 ≤ 8 * length (now «data») ⌝ }
     ensures { λ r. ⌜ answered r (now (output .exit)) ≡ answer (inCut (condensedMask (now (mask .entry))) («bit_len» .0) «bit_pos» (ordered «byte_order» (now («data» .entry)))) 0 (now (output .entry)) ⌝ }
 {
-    let size = masks::condensed_size(mask, bit_len);
+    let size = condensed::condensed_size(mask, bit_len);
     let byte_count = size.byte_count;
     let kept = byte_count.bytes();
     if output.len() < kept {
         return Reading::Refused(Refusal::OutputLacksRoom);
     }
-    masks::gather_bits(
+    condensed::gather_bits(
         mask,
         data,
         byte_order,

@@ -17,10 +17,10 @@ use Rattle.pack.specs.declared.Packing.{Packing}
 use Rattle.pack.specs.Source.{bytesSource, counted, standardSource, behindLength, terminated}
 use Rattle.pack.specs.Packing.{packedSource, framing, packing}
 use Rattle.pack.proofs.Sources.{leading-alike, terminated-alike, standard-alike}
-use Rattle.cutout.specs.Answers.{Payload, Encoded}
-use Rattle.cutout.specs.CutOut.{writing}
-use Rattle.cutout.proofs.Ways.{after-none}
-use Rattle.cutout.proofs.Likeness.{writing-alike}
+use Rattle.payload.specs.Answers.{Payload, Encoded}
+use Rattle.payload.specs.Writing.{writing}
+use Rattle.payload.proofs.Ways.{after-none}
+use Rattle.payload.proofs.Likeness.{writing-alike}
 use Rattle.writers.specs.Refusals.{standardRefusal, countRefusal}
 use Rattle.writers.specs.Shapes.{standardEncoded, leadingEncoded, minMaxEncoded, paramEncoded}
 

@@ -12,8 +12,8 @@ use Rattle.coded.specs.declared.variants.Termination.the-variants.{EndOfPdu, Ze
 use Rattle.masks.specs.Mask.{Mask}
 use Rattle.field.specs.Field.{Shape, leading, minMax, standard, param}
 use Rattle.pack.specs.Source.{bytesSource, counted, standardSource, behindLength, terminated}
-use Rattle.cutout.specs.Answers.{Payload, Encoded, done, after}
-use Rattle.cutout.specs.CutOut.{writing}
+use Rattle.payload.specs.Answers.{Payload, Encoded, done, after}
+use Rattle.payload.specs.Writing.{writing}
 use Rattle.writers.specs.Refusals.{standardRefusal, countRefusal, emptyRefusal}
 
 -- the input, then 00 or FF, twice for Unicode2String

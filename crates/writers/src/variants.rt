@@ -7,8 +7,8 @@ ghost use Rattle.masks.specs.Mask.{noMask};
 ghost use Rattle.field.specs.Field.{maskIn, shapeOf};
 ghost use Rattle.pack.specs.Source.{bytesSource, terminated};
 ghost use Rattle.pack.specs.Packing.{packedSource};
-ghost use Rattle.cutout.specs.Answers.{payloadOf, answered};
-ghost use Rattle.cutout.specs.CutOut.{writing};
+ghost use Rattle.payload.specs.Answers.{payloadOf, answered};
+ghost use Rattle.payload.specs.Writing.{writing};
 ghost use Rattle.writers.specs.Shapes.{standardEncoded, leadingEncoded, minMaxEncoded, paramEncoded, shapeEncoded};
 use super::checks::counted_use;
 use super::checks::validate_leading_length;
@@ -54,7 +54,7 @@ fn encode_standard_len(
             let byte_type = base_datatype.is_byte_type();
             let packing = pack::pack_data(bit_len, mask_use, mask, input.len(), byte_type);
             let data_len = packing.data_len;
-            cutout::write_source(
+            payload::write_source(
                 packing,
                 &input[..data_len],
                 mask_use,
@@ -86,7 +86,7 @@ fn write_bytes(
     ensures { λ r. ⌜ answered r (payloadOf (now (payload .exit)) (now (used .exit))) ≡ writing «byte_order» (packedSource packing noMask (now (input .entry))) (payloadOf (now (payload .entry)) (now (used .entry))) «byte_pos» «bit_pos» ⌝ }
 {
     let no_mask = &input[..0];
-    cutout::write_source(
+    payload::write_source(
         packing,
         input,
         MaskUse::Absent,

@@ -1,7 +1,7 @@
 -- `cutout::clear_cut_out` meets its contract. Assumes nothing.
 use Rattle.masks.specs.Mask.{maskOf}
 use Rattle.cutout.specs.CutOut.{cleared}
-use Rattle.cutout.proofs.Splices.{turned-back}
+use Rattle.cutout.proofs.Puts.{turned-back}
 use borrow.Author.Needs.{needs}
 use Rattle.cutout.proofs.clear_cut_out.Statement.{statement}
 use Rattle.cutout.proofs.clear_cut_out.Tie as tie

@@ -1,6 +1,6 @@
 -- `cutout::put_bits` meets its contract. Assumes nothing.
 use native.Mathlib.Omega.{arith}
-use Rattle.cutout.proofs.Written.{put-absent, put-plain, put-condensed}
+use Rattle.cutout.proofs.Puts.{put-absent, put-plain, put-condensed}
 use borrow.Author.Needs.{needs}
 use Rattle.cutout.proofs.put_bits.Statement.{statement}
 use Rattle.cutout.proofs.put_bits.Tie as tie

@@ -2,7 +2,7 @@
 use Rattle.masks.specs.Mask.{maskOf}
 use Rattle.pack.specs.Packing.{packedSource}
 use Rattle.cutout.specs.CutOut.{put}
-use Rattle.cutout.proofs.Splices.{turned-back}
+use Rattle.cutout.proofs.Puts.{turned-back}
 use borrow.Author.Needs.{needs}
 use Rattle.cutout.proofs.write_cut_out.Statement.{statement}
 use Rattle.cutout.proofs.write_cut_out.Tie as tie

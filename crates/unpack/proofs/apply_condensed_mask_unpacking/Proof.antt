@@ -3,7 +3,7 @@ use mathlib.Core.Path.{_≡_, sym, _∙_}
 use lib.Seq.{length-take-le}
 use Rattle.order.specs.Order.{ordered}
 use Rattle.masks.specs.Mask.{condensedMask}
-use Rattle.masks.specs.Condensed.{condensedBytes}
+use Rattle.condensed.specs.Condensed.{condensedBytes}
 use Rattle.unpack.specs.Unpacked.{inCut}
 use Rattle.unpack.proofs.Answers.{fits-ordered, lacks-room, has-room, by-room}
 use Rattle.unpack.proofs.Sizes.{length-condensed-field, gathered-is}

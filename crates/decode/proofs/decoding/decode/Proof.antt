@@ -10,9 +10,9 @@ use Rattle.field.specs.Field.{shapeOf, fieldOf}
 use Rattle.field.specs.Refusals.{callRefusal}
 use Rattle.field.proofs.Numbers.{call-not-30, sizes-fit}
 use Rattle.unpack.specs.Answers.{Finding, answer}
-use Rattle.decode.specs.Finding.{shapeFinding}
-use Rattle.decode.specs.Decode.{finding, decoded}
 use Rattle.unpack.proofs.Answers.{after-none, handed-answer}
+use Rattle.readers.specs.Finding.{shapeFinding}
+use Rattle.decode.specs.Decode.{finding, decoded}
 use borrow.Author.Needs.{needs}
 use Rattle.decode.proofs.decoding.decode.Statement.{statement}
 use Rattle.decode.proofs.decoding.decode.Tie as tie

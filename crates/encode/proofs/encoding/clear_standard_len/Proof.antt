@@ -7,7 +7,7 @@ use Rattle.field.proofs.Outside.{placed-le}
 use Rattle.pack.specs.declared.Packing.{Packing}
 use Rattle.pack.specs.Source.{counted}
 use Rattle.pack.proofs.Sources.{packing-size}
-use Rattle.cutout.specs.Answers.{payloadOf}
+use Rattle.payload.specs.Answers.{payloadOf}
 use Rattle.writers.specs.Refusals.{standardRefusal}
 use Rattle.encode.proofs.Clears.{byte-type-39, check-refused, bits-cleared}
 use borrow.Author.Needs.{needs}

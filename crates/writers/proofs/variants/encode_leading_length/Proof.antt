@@ -5,9 +5,9 @@ use lib.ListN.{length}
 use Rattle.kinds.specs.Answers.{numberOfCheck}
 use Rattle.pack.specs.declared.Packing.{Packing}
 use Rattle.pack.specs.Source.{bytesSource, behindLength}
-use Rattle.cutout.specs.Answers.{payloadOf}
-use Rattle.cutout.specs.CutOut.{writing}
-use Rattle.cutout.proofs.Ways.{handed}
+use Rattle.payload.specs.Answers.{payloadOf}
+use Rattle.payload.specs.Writing.{writing}
+use Rattle.payload.proofs.Ways.{handed}
 use Rattle.writers.specs.Refusals.{countRefusal}
 use Rattle.writers.proofs.Numbers.{leading-not-30}
 use Rattle.writers.proofs.Writings.{no-wider, leading-written}

@@ -1,5 +1,5 @@
 -- `writers::variants::encode_min_max_len` meets its contract. Assumes nothing.
-use Rattle.cutout.specs.Answers.{payloadOf}
+use Rattle.payload.specs.Answers.{payloadOf}
 use Rattle.writers.proofs.Writings.{zero-written, hex-ff-written, until-end-written, short-terminator}
 use borrow.Author.Needs.{needs}
 use Rattle.writers.proofs.variants.encode_min_max_len.Statement.{statement}

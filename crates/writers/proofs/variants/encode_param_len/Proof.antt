@@ -1,5 +1,5 @@
 -- `writers::variants::encode_param_len` meets its contract. Assumes nothing.
-use Rattle.cutout.specs.Answers.{payloadOf}
+use Rattle.payload.specs.Answers.{payloadOf}
 use Rattle.writers.proofs.Writings.{param-written}
 use borrow.Author.Needs.{needs}
 use Rattle.writers.proofs.variants.encode_param_len.Statement.{statement}

@@ -11,9 +11,9 @@ use Rattle.field.specs.Field.{maskIn}
 use Rattle.field.proofs.Outside.{placed-le}
 use Rattle.pack.specs.Source.{counted, sizeUnder, standardSource}
 use Rattle.pack.proofs.Sources.{packed-within}
-use Rattle.cutout.specs.Answers.{payloadOf}
-use Rattle.cutout.specs.CutOut.{writing}
-use Rattle.cutout.proofs.Ways.{handed}
+use Rattle.payload.specs.Answers.{payloadOf}
+use Rattle.payload.specs.Writing.{writing}
+use Rattle.payload.proofs.Ways.{handed}
 use Rattle.writers.specs.Refusals.{standardRefusal}
 use Rattle.writers.specs.Shapes.{standardEncoded}
 use Rattle.writers.proofs.Numbers.{standard-not-30}

@@ -1,7 +1,7 @@
 -- `writers::variants::encode_variant` meets its contract. Assumes nothing.
 use mathlib.Core.Bool.{Bool}
 use mathlib.Core.Path.{ap, _∙_}
-use Rattle.cutout.specs.Answers.{payloadOf}
+use Rattle.payload.specs.Answers.{payloadOf}
 use Rattle.writers.specs.Shapes.{minMaxEncoded}
 use borrow.Author.Needs.{needs}
 use Rattle.writers.proofs.variants.encode_variant.Statement.{statement}

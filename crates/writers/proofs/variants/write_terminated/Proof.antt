@@ -2,7 +2,7 @@
 use mathlib.Core.Path.{ap}
 use native.Mathlib.Omega.{arith}
 use Rattle.pack.specs.declared.Packing.{Packing}
-use Rattle.cutout.specs.Answers.{payloadOf}
+use Rattle.payload.specs.Answers.{payloadOf}
 use Rattle.writers.proofs.Writings.{terminated-written}
 use borrow.Author.Needs.{needs}
 use Rattle.writers.proofs.variants.write_terminated.Statement.{statement}

@@ -1,0 +1,42 @@
+-- `length_field::pos_info_leading_len` meets its contract. Assumes nothing.
+use mathlib.Core.Path.{_≡_, sym}
+use native.Mathlib.Omega.{arith}
+use Rattle.kinds.specs.Refusals.{bitLengthRefusal}
+use Rattle.length_field.proofs.LengthField.{some-bits, no-length}
+use borrow.Author.Needs.{needs}
+use Rattle.length_field.proofs.leading.pos_info_leading_len.Statement.{statement}
+use Rattle.length_field.proofs.leading.pos_info_leading_len.Tie as tie
+
+-- no number is given where the check passed
+passed : (c : tie.After-enum-told) → bitLengthRefusal (c .before .before .before .before .args .base-datatype) (c .before .before .before .before .args .bits .0) ≡ 0
+passed c = rw (c .enum-told .given .1) at (sym (c .before .before .validate-bit-len .ensures))
+
+validate-bit-len-requires : tie.Need-validate-bit-len-requires
+validate-bit-len-requires c κs = search needs
+
+enum-known-refusal : tie.Need-enum-known-refusal
+enum-known-refusal c = search needs
+
+enum-told : tie.Need-enum-told
+enum-told c = search needs
+
+behind-length-field-requires : tie.Need-behind-length-field-requires
+behind-length-field-requires c κs = let s = c .before .before .before .before in (omega arith, some-bits (s .args .base-datatype) _ (passed c))
+
+returns : tie.Need-returns
+returns c = let s = c .before .before .before .before .before in
+    no-length (s .args .byte-order) (s .args .bits .0) (s .args .uds-payload .now) (s .args .byte-pos) (s .args .base-datatype) (c .before .refusal .given .0 .0) (rw (c .before .refusal .given .1) at (c .before .before .before .validate-bit-len .ensures))
+
+returns-2 : tie.Need-returns-2
+returns-2 c = rw (passed (c .before)) (c .behind-length-field .ensures)
+
+pub pos-info-leading-len-spec : {M : Type 1} → statement M
+pos-info-leading-len-spec =
+    tie.close
+    (tie.spec
+    validate-bit-len-requires
+    enum-known-refusal
+    enum-told
+    behind-length-field-requires
+    returns
+    returns-2)

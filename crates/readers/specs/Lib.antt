@@ -1,0 +1,3 @@
+-- `Finding` has what each variant finds, and `Located` what is read at a place that was found.
+pub mod Finding
+pub mod Located
