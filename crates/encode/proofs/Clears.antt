@@ -13,9 +13,9 @@ use Rattle.pack.specs.Source.{counted, sizeUnder}
 use Rattle.payload.specs.Answers.{Payload, Encoded, refusedWith, answered}
 use Rattle.payload.specs.Writing.{clearing}
 use Rattle.payload.proofs.Ways.{handed}
-use Rattle.writers.specs.Refusals.{standardRefusal}
+use Rattle.lengths.specs.Refusals.{standardRefusal}
 use Rattle.encode.specs.Clear.{standardCleared}
-use Rattle.writers.proofs.Numbers.{standard-not-30}
+use Rattle.lengths.proofs.Numbers.{standard-not-30}
 
 module _ (t : DataType) (o : ByteOrder) (p : Payload) (at pos len : ℕ) (mask : Mask) where
   abbrev Clears : Encoded → Type 0

@@ -13,7 +13,7 @@ use Rattle.field.specs.Refusals.{writeCallRefusal}
 use Rattle.pack.specs.Source.{counted, sizeUnder}
 use Rattle.payload.specs.Answers.{Payload, Encoded, after, refusedWith}
 use Rattle.payload.specs.Writing.{clearing}
-use Rattle.writers.specs.Refusals.{standardRefusal}
+use Rattle.lengths.specs.Refusals.{standardRefusal}
 
 module _ (t : DataType) (o : ByteOrder) (p : Payload) (at pos : ℕ) where
   -- 39 for byte types; 21 to 24, 36, 26, 30; then the field's own bits are zero, in the cut-out that encode would use

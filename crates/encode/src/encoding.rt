@@ -14,9 +14,9 @@ use kinds::Check;
 use kinds::DataType;
 use kinds::Refusal;
 use kinds::Writing;
-use writers::counted_use;
+use lengths::counted_use;
+use lengths::validate_standard;
 use writers::encode_variant;
-use writers::validate_standard;
 
 // Writes the input as a field at a byte position and a bit position of the payload, of which `used` bytes are used. The
 // payload grows in its slice where the field ends past them. Masks are parts of the store.

@@ -21,7 +21,7 @@ use Rattle.payload.specs.Answers.{Payload, Encoded}
 use Rattle.payload.specs.Writing.{writing}
 use Rattle.payload.proofs.Ways.{after-none}
 use Rattle.payload.proofs.Likeness.{writing-alike}
-use Rattle.writers.specs.Refusals.{standardRefusal, countRefusal}
+use Rattle.lengths.specs.Refusals.{standardRefusal, countRefusal}
 use Rattle.writers.specs.Shapes.{standardEncoded, leadingEncoded, minMaxEncoded, paramEncoded}
 
 -- ---- Leading

@@ -1,3 +1,2 @@
--- `Refusals` has what is refused for a variant's sake, and `Shapes` what each variant answers.
-pub mod Refusals
+-- What each variant answers.
 pub mod Shapes

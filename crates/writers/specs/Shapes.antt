@@ -14,7 +14,7 @@ use Rattle.field.specs.Field.{Shape, leading, minMax, standard, param}
 use Rattle.pack.specs.Source.{bytesSource, counted, standardSource, behindLength, terminated}
 use Rattle.payload.specs.Answers.{Payload, Encoded, done, after}
 use Rattle.payload.specs.Writing.{writing}
-use Rattle.writers.specs.Refusals.{standardRefusal, countRefusal, emptyRefusal}
+use Rattle.lengths.specs.Refusals.{standardRefusal, countRefusal, emptyRefusal}
 
 -- the input, then 00 or FF, twice for Unicode2String
 abbrev pub withTerminator : Termination → Bool → List ℕ → List ℕ

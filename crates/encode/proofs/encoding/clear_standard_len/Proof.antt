@@ -8,7 +8,7 @@ use Rattle.pack.specs.declared.Packing.{Packing}
 use Rattle.pack.specs.Source.{counted}
 use Rattle.pack.proofs.Sources.{packing-size}
 use Rattle.payload.specs.Answers.{payloadOf}
-use Rattle.writers.specs.Refusals.{standardRefusal}
+use Rattle.lengths.specs.Refusals.{standardRefusal}
 use Rattle.encode.proofs.Clears.{byte-type-39, check-refused, bits-cleared}
 use borrow.Author.Needs.{needs}
 use Rattle.encode.proofs.encoding.clear_standard_len.Statement.{statement}

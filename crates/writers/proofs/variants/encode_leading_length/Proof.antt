@@ -8,8 +8,8 @@ use Rattle.pack.specs.Source.{bytesSource, behindLength}
 use Rattle.payload.specs.Answers.{payloadOf}
 use Rattle.payload.specs.Writing.{writing}
 use Rattle.payload.proofs.Ways.{handed}
-use Rattle.writers.specs.Refusals.{countRefusal}
-use Rattle.writers.proofs.Numbers.{leading-not-30}
+use Rattle.lengths.specs.Refusals.{countRefusal}
+use Rattle.lengths.proofs.Numbers.{leading-not-30}
 use Rattle.writers.proofs.Writings.{no-wider, leading-written}
 use borrow.Author.Needs.{needs}
 use Rattle.writers.proofs.variants.encode_leading_length.Statement.{statement}

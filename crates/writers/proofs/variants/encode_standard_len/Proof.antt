@@ -14,9 +14,9 @@ use Rattle.pack.proofs.Sources.{packed-within}
 use Rattle.payload.specs.Answers.{payloadOf}
 use Rattle.payload.specs.Writing.{writing}
 use Rattle.payload.proofs.Ways.{handed}
-use Rattle.writers.specs.Refusals.{standardRefusal}
+use Rattle.lengths.specs.Refusals.{standardRefusal}
 use Rattle.writers.specs.Shapes.{standardEncoded}
-use Rattle.writers.proofs.Numbers.{standard-not-30}
+use Rattle.lengths.proofs.Numbers.{standard-not-30}
 use Rattle.writers.proofs.Writings.{standard-written}
 use borrow.Author.Needs.{needs}
 use Rattle.writers.proofs.variants.encode_standard_len.Statement.{statement}

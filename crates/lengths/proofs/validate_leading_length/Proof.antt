@@ -1,10 +1,10 @@
--- `writers::checks::validate_leading_length` meets its contract. Assumes nothing.
+-- `lengths::validate_leading_length` meets its contract. Assumes nothing.
 use mathlib.Core.Path.{sym}
 use native.Mathlib.Omega.{arith}
-use Rattle.writers.proofs.Lengths.{is-32, of-64, is-33, is-38, holds-count}
+use Rattle.lengths.proofs.Counts.{is-32, of-64, is-33, is-38, holds-count}
 use borrow.Author.Needs.{needs}
-use Rattle.writers.proofs.checks.validate_leading_length.Statement.{statement}
-use Rattle.writers.proofs.checks.validate_leading_length.Tie as tie
+use Rattle.lengths.proofs.validate_leading_length.Statement.{statement}
+use Rattle.lengths.proofs.validate_leading_length.Tie as tie
 
 bits-requires : tie.Need-bits-requires
 bits-requires c κs = search needs

@@ -1,4 +1,4 @@
-// What encode and clear refuse for a variant's sake, and the mask that counts in them.
+// What encode and clear refuse for a variant's sake, its lengths and its mask's, and the mask that counts in them.
 ghost use mathlib.Core.Path.{_≡_};
 ghost use mathlib.Core.Bool.{cond};
 ghost use Prim.Native.Nat.{_*_, _≤_};
@@ -7,7 +7,7 @@ ghost use lib.Dec.{ltb};
 ghost use Rattle.kinds.specs.Answers.{numberOfCheck};
 ghost use Rattle.masks.specs.Mask.{maskOf};
 ghost use Rattle.pack.specs.Source.{counted};
-ghost use Rattle.writers.specs.Refusals.{standardRefusal, countRefusal};
+ghost use Rattle.lengths.specs.Refusals.{standardRefusal, countRefusal};
 use kinds::BitLength;
 use kinds::ByteCount;
 use kinds::Check;

@@ -7,7 +7,7 @@ use Rattle.kinds.specs.declared.types.DataType.{DataType}
 use Rattle.kinds.specs.Refusals.{bitLengthRefusal}
 use Rattle.kinds.proofs.Rules.{eqb-cond, cond-same, orElse-not, length-not-30}
 use Rattle.masks.specs.Mask.{Mask}
-use Rattle.writers.specs.Refusals.{standardRefusal, countRefusal}
+use Rattle.lengths.specs.Refusals.{standardRefusal, countRefusal}
 
 pub standard-not-30 : (t : DataType) (len : ℕ) (mask : Mask) → eqb (standardRefusal t len mask) 30 ≡ false
 standard-not-30 t len mask = orElse-not (bitLengthRefusal t len) _ 30 (length-not-30 t len) (simp (eqb-cond, cond-same))

@@ -7,7 +7,7 @@ use lib.Pow.{pow-pos}
 use borrow.Author.Tests.{lt-ltb, le-ltb, le-leb, lt-leb, ne-eqb}
 use mathlib.Core.Logic.{⊎-elim}
 use Rattle.kinds.proofs.Compare.{below}
-use Rattle.writers.specs.Refusals.{countRefusal}
+use Rattle.lengths.specs.Refusals.{countRefusal}
 
 -- a count needs more bits than a field has where something is left of it above them
 fits : (bits n : ℕ) → n / 2 ^ bits ≡ 0 → n < 2 ^ bits

@@ -1,9 +1,9 @@
--- `writers::checks::validate_condensed` meets its contract. Assumes nothing.
+-- `lengths::validate_condensed` meets its contract. Assumes nothing.
 use mathlib.Core.Path.{_∙_}
 use borrow.Author.Tests.{lt-ltb, le-ltb}
 use borrow.Author.Needs.{needs}
-use Rattle.writers.proofs.checks.validate_condensed.Statement.{statement}
-use Rattle.writers.proofs.checks.validate_condensed.Tie as tie
+use Rattle.lengths.proofs.validate_condensed.Statement.{statement}
+use Rattle.lengths.proofs.validate_condensed.Tie as tie
 
 bits-requires : tie.Need-bits-requires
 bits-requires c κs = search needs

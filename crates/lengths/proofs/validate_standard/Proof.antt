@@ -1,11 +1,11 @@
--- `writers::checks::validate_standard` meets its contract. Assumes nothing.
+-- `lengths::validate_standard` meets its contract. Assumes nothing.
 use borrow.Author.Tests.{le-ltb}
 use native.Mathlib.Omega.{arith}
 use mathlib.Core.Path.{sym}
 use Rattle.kinds.proofs.Refused.{handed-on}
 use borrow.Author.Needs.{needs}
-use Rattle.writers.proofs.checks.validate_standard.Statement.{statement}
-use Rattle.writers.proofs.checks.validate_standard.Tie as tie
+use Rattle.lengths.proofs.validate_standard.Statement.{statement}
+use Rattle.lengths.proofs.validate_standard.Tie as tie
 
 validate-bit-len-requires : tie.Need-validate-bit-len-requires
 validate-bit-len-requires c κs = search needs

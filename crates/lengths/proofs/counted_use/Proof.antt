@@ -1,7 +1,7 @@
--- `writers::checks::counted_use` meets its contract. Assumes nothing.
-use Rattle.writers.proofs.Counted.{empty-counts, full-counts}
-use Rattle.writers.proofs.checks.counted_use.Statement.{statement}
-use Rattle.writers.proofs.checks.counted_use.Tie as tie
+-- `lengths::counted_use` meets its contract. Assumes nothing.
+use Rattle.lengths.proofs.Counted.{empty-counts, full-counts}
+use Rattle.lengths.proofs.counted_use.Statement.{statement}
+use Rattle.lengths.proofs.counted_use.Tie as tie
 
 returns : tie.Need-returns
 returns c = empty-counts (c .before .args .mask-use) (c .before .args .mask .now) (c .if1 .taken)
