@@ -101,69 +101,59 @@ pub fn lends(
     }
 }
 
-// The byte at i, and EE past the end.
-fn byte_at(bytes: &[u8], i: usize) -> u8 {
-    if i < bytes.len() {
-        return bytes[i];
-    }
-    0xEE
-}
-
-// These bytes in front of a slice of 20, which is room enough for every case. What is past them is EE.
-fn room_for(bytes: &[u8]) -> [u8; 20] {
-    let mut room: [u8; 20] = [0xEE; 20];
-    for i in 0..20 {
-        room[i] = byte_at(bytes, i);
-    }
-    room
-}
-
-// Whether a writing reports a number, 0 for success, and leaves these bytes used and the rest of the room as it was.
-fn wrote(writing: Writing, used: usize, payload: &[u8], number: usize, after: &[u8]) -> bool {
+// Whether a writing reports what it should, leaves so many bytes used, and leaves the payload so.
+fn wrote(
+    writing: Writing,
+    used: usize,
+    uds_payload: &[u8],
+    number: usize,
+    used_after: usize,
+    after: &[u8],
+) -> bool {
     if !same_numbers(numbers(writing.report()), refused(number)) {
         return false;
     }
-    if used != after.len() {
+    if used != used_after {
         return false;
     }
-    let want = room_for(after);
-    check::same(payload, &want)
+    check::same(uds_payload, after)
 }
 
-// Whether an encode at byte 0, on a payload of which these bytes are used, reports the number and leaves those.
+// Whether an encode at byte 0 answers with a number, 0 for success, and leaves the payload and its used length so.
 pub fn writes(
     built: Built,
     store: &[u8],
-    input: &[u8],
-    on: &[u8],
+    input_data: &[u8],
+    uds_payload: &mut [u8],
+    used: usize,
     bit_pos: usize,
     number: usize,
+    used_after: usize,
     after: &[u8],
 ) -> bool {
     match built {
         Built::Refused(_) => false,
         Built::Made(coded_type) => {
-            let mut payload = room_for(on);
-            let mut used = on.len();
+            let mut end = used;
             let writing = encode::encode(
                 coded_type,
                 store,
-                input,
-                &mut payload,
-                &mut used,
+                input_data,
+                uds_payload,
+                &mut end,
                 0,
                 bit_pos,
             );
-            wrote(writing, used, &payload, number, after)
+            wrote(writing, end, uds_payload, number, used_after, after)
         }
     }
 }
 
-// The same of a clear.
+// Whether a clear at byte 0 of a payload that is used whole answers with a number and leaves the payload so.
 pub fn clears(
     built: Built,
     store: &[u8],
-    on: &[u8],
+    uds_payload: &mut [u8],
     bit_pos: usize,
     number: usize,
     after: &[u8],
@@ -171,10 +161,9 @@ pub fn clears(
     match built {
         Built::Refused(_) => false,
         Built::Made(coded_type) => {
-            let mut payload = room_for(on);
-            let used = on.len();
-            let writing = encode::clear(coded_type, store, &mut payload, used, 0, bit_pos);
-            wrote(writing, used, &payload, number, after)
+            let used = uds_payload.len();
+            let writing = encode::clear(coded_type, store, uds_payload, used, 0, bit_pos);
+            wrote(writing, used, uds_payload, number, used, after)
         }
     }
 }

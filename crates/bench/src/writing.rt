@@ -6,85 +6,124 @@ use kinds::DataType;
 
 pub fn case_d() -> bool {
     let field = fields::standard(8, true);
-    if !writes(field, b"", b"\xFF", b"\x00\x00", 4, 0, b"\x0F\xF0") {
+    let mut payload: [u8; 2] = [0x00, 0x00];
+    if !writes(field, b"", b"\xFF", &mut payload, 2, 4, 0, 2, b"\x0F\xF0") {
         return false;
     }
-    clears(field, b"", b"\x0F\xF0", 4, 0, b"\x00\x00")
+    clears(field, b"", &mut payload, 4, 0, b"\x00\x00")
 }
 
 pub fn case_e() -> bool {
     let field = fields::standard(12, true);
-    writes(field, b"", b"\x0A\xBC", b"\x00\x00", 0, 0, b"\x0A\x0C")
+    let mut payload: [u8; 2] = [0x00, 0x00];
+    writes(
+        field,
+        b"",
+        b"\x0A\xBC",
+        &mut payload,
+        2,
+        0,
+        0,
+        2,
+        b"\x0A\x0C",
+    )
+}
+
+fn writes_under_mask() -> bool {
+    let mask = b"\x0F";
+    let field = fields::masked(8, 1, false);
+    let mut payload: [u8; 1] = [0x33];
+    if !writes(field, mask, b"\xA5", &mut payload, 1, 0, 0, 1, b"\x35") {
+        return false;
+    }
+    clears(field, mask, &mut payload, 0, 0, b"\x30")
 }
 
 pub fn case_f() -> bool {
     let field = fields::standard(8, true);
-    if !writes(field, b"", b"\x01", b"\xF0", 0, 0, b"\xF1") {
+    let mut payload: [u8; 1] = [0xF0];
+    if !writes(field, b"", b"\x01", &mut payload, 1, 0, 0, 1, b"\xF1") {
         return false;
     }
-    let mask = b"\x0F";
-    let masked = fields::masked(8, 1, false);
-    if !writes(masked, mask, b"\xA5", b"\x33", 0, 0, b"\x35") {
-        return false;
-    }
-    clears(masked, mask, b"\x35", 0, 0, b"\x30")
+    writes_under_mask()
 }
 
 pub fn case_i() -> bool {
     let mask = b"\xF0";
     let field = fields::masked(8, 1, true);
-    if !writes(field, mask, b"\x0A", b"\x05", 0, 0, b"\xA5") {
+    let mut payload: [u8; 1] = [0x05];
+    if !writes(field, mask, b"\x0A", &mut payload, 1, 0, 0, 1, b"\xA5") {
         return false;
     }
-    clears(field, mask, b"\xA5", 0, 0, b"\x05")
+    clears(field, mask, &mut payload, 0, 0, b"\x05")
 }
 
 pub fn case_j() -> bool {
     let mask = b"\xF0";
     let field = fields::masked(4, 1, true);
-    if !writes(field, mask, b"\x0A", b"\x05", 0, 36, b"\x05") {
+    let mut payload: [u8; 1] = [0x05];
+    if !writes(field, mask, b"\x0A", &mut payload, 1, 0, 36, 1, b"\x05") {
         return false;
     }
-    clears(field, mask, b"\x05", 0, 36, b"\x05")
+    clears(field, mask, &mut payload, 0, 36, b"\x05")
 }
 
 pub fn case_k() -> bool {
     let mask = b"\xFF\xFF";
     let field = fields::masked(16, 2, true);
-    writes(field, mask, b"\x12", b"\x00\x00", 0, 0, b"\xFF\x12")
+    let mut payload: [u8; 2] = [0x00, 0x00];
+    writes(field, mask, b"\x12", &mut payload, 2, 0, 0, 2, b"\xFF\x12")
 }
 
 pub fn case_m() -> bool {
     let field = fields::leading(DataType::Unicode2String, false, 8);
-    writes(field, b"", b"\x41\x00", b"", 0, 0, b"\x41\x02\x00")
+    let mut payload: [u8; 4] = [0xEE; 4];
+    let after = b"\x41\x02\x00\xEE";
+    writes(field, b"", b"\x41\x00", &mut payload, 0, 0, 0, 3, after)
 }
 
 pub fn case_p() -> bool {
     let field = fields::param();
-    writes(field, b"", b"\x12\x34", b"", 0, 0, b"\x34\x12")
+    let mut payload: [u8; 3] = [0xEE; 3];
+    let after = b"\x34\x12\xEE";
+    writes(field, b"", b"\x12\x34", &mut payload, 0, 0, 0, 2, after)
 }
 
-// Text behind a length field of so many bits.
-fn writes_text(bits: u32, text: &[u8], number: usize, after: &[u8]) -> bool {
+// Text behind a length field of so many bits, into room for 17 bytes.
+fn writes_text(bits: u32, text: &[u8], number: usize, used_after: usize, after: &[u8]) -> bool {
     let field = fields::leading(DataType::AsciiString, true, bits);
-    writes(field, b"", text, b"", 0, number, after)
+    let mut payload: [u8; 17] = [0xEE; 17];
+    writes(
+        field,
+        b"",
+        text,
+        &mut payload,
+        0,
+        0,
+        number,
+        used_after,
+        after,
+    )
 }
 
 pub fn case_q() -> bool {
-    if !writes_text(4, b"abcdefghijklmno", 0, b"\x0Fabcdefghijklmno") {
+    let untouched: [u8; 17] = [0xEE; 17];
+    let after = b"\x0Fabcdefghijklmno\xEE";
+    if !writes_text(4, b"abcdefghijklmno", 0, 16, after) {
         return false;
     }
-    if !writes_text(4, b"abcdefghijklmnop", 33, b"") {
+    if !writes_text(4, b"abcdefghijklmnop", 33, 0, &untouched) {
         return false;
     }
-    if !writes_text(64, b"a", 0, b"\x00\x00\x00\x00\x00\x00\x00\x01a") {
+    let wide = b"\x00\x00\x00\x00\x00\x00\x00\x01a\xEE\xEE\xEE\xEE\xEE\xEE\xEE\xEE";
+    if !writes_text(64, b"a", 0, 9, wide) {
         return false;
     }
-    if !writes_text(65, b"a", 32, b"") {
+    if !writes_text(65, b"a", 32, 0, &untouched) {
         return false;
     }
-    if !writes_text(0, b"", 38, b"") {
+    if !writes_text(0, b"", 38, 0, &untouched) {
         return false;
     }
-    writes_text(0, b"a", 33, b"")
+    writes_text(0, b"a", 33, 0, &untouched)
 }
