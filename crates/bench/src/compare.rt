@@ -162,7 +162,7 @@ pub fn clears(
         Built::Refused(_) => false,
         Built::Made(coded_type) => {
             let used = uds_payload.len();
-            let writing = encode::clear(coded_type, store, uds_payload, used, 0, bit_pos);
+            let writing = clear::clear(coded_type, store, uds_payload, used, 0, bit_pos);
             wrote(writing, used, uds_payload, number, used, after)
         }
     }

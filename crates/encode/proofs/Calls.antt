@@ -1,4 +1,4 @@
--- The public calls: what is refused before their own rules, and what is answered by these. Assumes nothing.
+-- An encode: what is refused before its own rules, and what is answered by these. Assumes nothing.
 use mathlib.Core.Path.{_≡_, sym, ap, _∙_}
 use mathlib.Core.List.{List}
 use Prim.Native.Nat.{ℕ}
@@ -18,7 +18,6 @@ use Rattle.payload.specs.Answers.{Encoded, payloadOf, answered}
 use Rattle.payload.proofs.Ways.{handed, after-none}
 use Rattle.writers.specs.Shapes.{shapeEncoded}
 use Rattle.encode.specs.Encode.{encodeOf, encoded}
-use Rattle.encode.specs.Clear.{clearOf, clearedField}
 
 module _ (t : DiagCodedType) (store : List ℕ) (bytes : List ℕ) (used at pos : ℕ) where
   module _ (input : List ℕ) where
@@ -50,18 +49,3 @@ module _ (t : DiagCodedType) (store : List ℕ) (bytes : List ℕ) (used at pos 
           encode-passed z e
           (q ∙ ap shape eo
           ∙ sym (after-none (bitPositionRefusal (t .«base_datatype») pos) (payloadOf bytes used) (shape (byteOrder (t .«base_datatype») (t .«is_high_low_byte_order»))) y))
-
-  -- a clear has no input
-  abbrev clearNumber : ℕ
-  clearNumber = writeCallRefusal t (length store) 0 (length bytes) used
-
-  abbrev Clears : Encoded → Type 0
-  Clears e = e ≡ clearedField t store (payloadOf bytes used) at pos
-
-  pub clear-refused : (r : Refusal) → numberOf r ≡ clearNumber → Clears (answered (Refused r) (payloadOf bytes used))
-  unfolding clearedField
-  clear-refused r e = handed r clearNumber (payloadOf bytes used) _ e (write-call-not-30 t (length store) 0 (length bytes) used)
-
-  pub clear-passed : clearNumber ≡ 0 → (e : Encoded) → e ≡ clearOf (fieldOf t store) (payloadOf bytes used) at pos → Clears e
-  unfolding clearedField
-  clear-passed z e q = q ∙ sym (after-none clearNumber (payloadOf bytes used) (clearOf (fieldOf t store) (payloadOf bytes used) at pos) z)

@@ -1,4 +1,2 @@
--- `Clears` has each way to a clear's answer, `Calls` the public calls, and `Worked` examples that the checker computes.
-pub mod Clears
+-- What is refused before the own rules of an encode, and what is answered by these.
 pub mod Calls
-pub mod Worked

@@ -1,3 +1,2 @@
--- `Encode` has the answer of an encode, and `Clear` that of a clear.
+-- The answer of an encode.
 pub mod Encode
-pub mod Clear

@@ -1,5 +1,4 @@
-// Writing a coded field of a payload, and taking its bits back to zero.
-mod encoding; // encoding.rt: encode and clear
+// Writing a coded field of a payload.
+mod encoding; // encoding.rt: encode
 
-pub use encoding::clear;
 pub use encoding::encode;

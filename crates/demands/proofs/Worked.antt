@@ -25,8 +25,8 @@ use Rattle.pack.specs.Source.{standardBits}
 use Rattle.cutout.specs.CutOut.{cleared, readied}
 use Rattle.payload.specs.Answers.{Encoded, payloadOf}
 use Rattle.payload.specs.Writing.{spliced, inCutOut, grown, writing, clearing}
 use Rattle.encode.specs.Encode.{encoded}
-use Rattle.encode.specs.Clear.{clearedField}
+use Rattle.clear.specs.Clear.{clearedField}
 
 -- coded types: a type, high-low or not, and a variant
 abbrev coded : DataType → Bool → DiagCodedTypeVariant → DiagCodedType

@@ -1,4 +1,4 @@
--- `encode::encoding::clear_standard_len` meets its contract. Assumes nothing.
+-- `clear::clearing::clear_standard_len` meets its contract. Assumes nothing.
 use mathlib.Core.Path.{sym, ap, ap₂, _∙_}
 use mathlib.Core.Bool.{false}
 use Rattle.masks.specs.Mask.{maskOf}
@@ -9,10 +9,10 @@ use Rattle.pack.specs.Source.{counted}
 use Rattle.pack.proofs.Sources.{packing-size}
 use Rattle.payload.specs.Answers.{payloadOf}
 use Rattle.lengths.specs.Refusals.{standardRefusal}
-use Rattle.encode.proofs.Clears.{byte-type-39, check-refused, bits-cleared}
+use Rattle.clear.proofs.Clears.{byte-type-39, check-refused, bits-cleared}
 use borrow.Author.Needs.{needs}
-use Rattle.encode.proofs.encoding.clear_standard_len.Statement.{statement}
-use Rattle.encode.proofs.encoding.clear_standard_len.Tie as tie
+use Rattle.clear.proofs.clearing.clear_standard_len.Statement.{statement}
+use Rattle.clear.proofs.clearing.clear_standard_len.Tie as tie
 
 is-byte-type-requires : tie.Need-is-byte-type-requires
 is-byte-type-requires c κs = search needs

@@ -1,13 +1,13 @@
--- `encode::encoding::clear` meets its contract. Assumes nothing.
+-- `clear::clearing::clear` meets its contract. Assumes nothing.
 use mathlib.Core.Path.{_≡_, sym, _∙_}
 use lib.ListN.{length}
 use native.Mathlib.Omega.{arith}
 use Rattle.field.specs.Refusals.{writeCallRefusal}
 use Rattle.field.proofs.Numbers.{write-sizes-fit}
-use Rattle.encode.proofs.Calls.{clear-refused, clear-passed}
+use Rattle.clear.proofs.Clears.{clear-refused, clear-passed}
 use borrow.Author.Needs.{needs}
-use Rattle.encode.proofs.encoding.clear.Statement.{statement}
-use Rattle.encode.proofs.encoding.clear.Tie as tie
+use Rattle.clear.proofs.clearing.clear.Statement.{statement}
+use Rattle.clear.proofs.clearing.clear.Tie as tie
 
 -- nothing was refused before the call's own rules
 passed : (c : tie.After-enum-told) → writeCallRefusal (c .before .before .before .before .before .args .coded-type) (length (c .before .before .before .before .before .args .store .now)) 0 (length (c .before .before .before .before .before .args .uds-payload .now)) (c .before .before .before .before .before .args .used) ≡ 0

@@ -1,0 +1,2 @@
+-- Each way to a clear's answer.
+pub mod Clears

@@ -1,0 +1,2 @@
+-- The answer of a clear.
+pub mod Clear

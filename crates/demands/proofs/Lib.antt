@@ -1,0 +1,2 @@
+-- Examples of encode and clear that the checker computes.
+pub mod Worked

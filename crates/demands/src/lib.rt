@@ -1,0 +1,1 @@
+// Theorems over what all calls are held to. There is no code.
