@@ -1,8 +1,4 @@
-// What a reading or a writing answers, beside what it should: number, bit count, byte count, expected and actual, and every byte.
-use coded::Built;
-use kinds::ByteCount;
-use kinds::Report;
-use kinds::Writing;
+// What a call answers, beside what it should: number, bit count, byte count, expected and actual, every byte, and the used length.
 
 pub fn gave(bit_count: usize, byte_count: usize) -> [usize; 5] {
     [0, bit_count, byte_count, 0, 0]
@@ -16,154 +12,121 @@ pub fn short(expected: usize, actual: usize) -> [usize; 5] {
     [30, 0, 0, expected, actual]
 }
 
-fn numbers(report: Report) -> [usize; 5] {
-    [
-        report.number as usize,
-        report.bit_count,
-        report.byte_count,
-        report.expected,
-        report.actual,
-    ]
-}
-
-fn same_numbers(a: [usize; 5], b: [usize; 5]) -> bool {
-    if a[0] != b[0] {
+fn same_numbers(number: u32, report: [usize; 4], want: [usize; 5]) -> bool {
+    if number as usize != want[0] {
         return false;
     }
-    if a[1] != b[1] {
+    if report[0] != want[1] {
         return false;
     }
-    if a[2] != b[2] {
+    if report[1] != want[2] {
         return false;
     }
-    if a[3] != b[3] {
+    if report[2] != want[3] {
         return false;
     }
-    a[4] == b[4]
+    report[3] == want[4]
 }
 
 // Whether a decode into an output of four bytes EE reports what it should and leaves the output so.
 pub fn reads(
-    built: Built,
+    record: &[u8],
     store: &[u8],
-    uds_payload: &[u8],
+    payload: &[u8],
     byte_pos: usize,
     bit_pos: usize,
     want: [usize; 5],
     after: &[u8],
 ) -> bool {
-    match built {
-        Built::Refused(_) => false,
-        Built::Made(coded_type) => {
-            let mut output: [u8; 4] = [0xEE; 4];
-            let reading = decode::decode(
-                coded_type,
-                store,
-                uds_payload,
-                byte_pos,
-                bit_pos,
-                &mut output,
-            );
-            if same_numbers(numbers(reading.report()), want) {
-                return check::same(&output, after);
-            }
-            false
-        }
+    let mut output: [u8; 4] = [0xEE; 4];
+    let mut report: [usize; 4] = [1; 4];
+    let number = dct::dct_decode(
+        record,
+        store,
+        payload,
+        byte_pos,
+        bit_pos,
+        &mut output,
+        &mut report,
+    );
+    if same_numbers(number, report, want) {
+        return check::same(&output, after);
     }
+    false
 }
 
-// Whether a runtime read reports what it should and hands back that part.
+// Whether a runtime read at byte 0 reports what it should, and the part that it tells of is this.
 pub fn lends(
-    built: Built,
-    uds_payload: &[u8],
-    byte_pos: usize,
+    record: &[u8],
+    payload: &[u8],
     byte_count: usize,
     want: [usize; 5],
     part: &[u8],
 ) -> bool {
-    match built {
-        Built::Refused(_) => false,
-        Built::Made(coded_type) => {
-            let mut report: [usize; 5] = [1, 1, 1, 1, 1];
-            let lent = decode::decode_with_runtime_byte_length(
-                coded_type,
-                b"",
-                uds_payload,
-                byte_pos,
-                ByteCount(byte_count),
-                &mut report,
-            );
-            if same_numbers(report, want) {
-                return check::same(lent, part);
-            }
-            false
-        }
-    }
-}
-
-// Whether a writing reports what it should, leaves so many bytes used, and leaves the payload so.
-fn wrote(
-    writing: Writing,
-    used: usize,
-    uds_payload: &[u8],
-    number: usize,
-    used_after: usize,
-    after: &[u8],
-) -> bool {
-    if !same_numbers(numbers(writing.report()), refused(number)) {
+    let mut place = 1;
+    let mut report: [usize; 4] = [1; 4];
+    let number = dct::dct_read(record, b"", payload, 0, byte_count, &mut place, &mut report);
+    if !same_numbers(number, report, want) {
         return false;
     }
-    if used != used_after {
+    if payload.len() < place {
         return false;
     }
-    check::same(uds_payload, after)
+    let count = report[1];
+    if payload.len() - place < count {
+        return false;
+    }
+    let end = place + count;
+    check::same(&payload[place..end], part)
 }
 
 // Whether an encode at byte 0 answers with a number, 0 for success, and leaves the payload and its used length so.
 pub fn writes(
-    built: Built,
+    record: &[u8],
     store: &[u8],
-    input_data: &[u8],
-    uds_payload: &mut [u8],
+    input: &[u8],
+    payload: &mut [u8],
     used: usize,
     bit_pos: usize,
     number: usize,
     used_after: usize,
     after: &[u8],
 ) -> bool {
-    match built {
-        Built::Refused(_) => false,
-        Built::Made(coded_type) => {
-            let mut end = used;
-            let writing = encode::encode(
-                coded_type,
-                store,
-                input_data,
-                uds_payload,
-                &mut end,
-                0,
-                bit_pos,
-            );
-            wrote(writing, end, uds_payload, number, used_after, after)
-        }
+    let mut end = used;
+    let mut report: [usize; 4] = [1; 4];
+    let given = dct::dct_encode(
+        record,
+        store,
+        input,
+        payload,
+        &mut end,
+        0,
+        bit_pos,
+        &mut report,
+    );
+    if !same_numbers(given, report, refused(number)) {
+        return false;
     }
+    if end != used_after {
+        return false;
+    }
+    check::same(payload, after)
 }
 
 // Whether a clear at byte 0 of a payload that is used whole answers with a number and leaves the payload so.
 pub fn clears(
-    built: Built,
+    record: &[u8],
     store: &[u8],
-    uds_payload: &mut [u8],
+    payload: &mut [u8],
     bit_pos: usize,
     number: usize,
     after: &[u8],
 ) -> bool {
-    match built {
-        Built::Refused(_) => false,
-        Built::Made(coded_type) => {
-            let used = uds_payload.len();
-            let writing = clear::clear(coded_type, store, uds_payload, used, 0, bit_pos);
-            wrote(writing, used, uds_payload, number, used, after)
-        }
+    let used = payload.len();
+    let mut report: [usize; 4] = [1; 4];
+    let given = dct::dct_clear(record, store, payload, used, 0, bit_pos, &mut report);
+    if same_numbers(given, report, refused(number)) {
+        return check::same(payload, after);
     }
+    false
 }

@@ -1,5 +1,5 @@
 // Runs document 01's bench cases and prints a line for each: letter, space, `same` or `differs`.
-mod fields; // fields.rt: the fields of the cases
+mod records; // records.rt: the records of the cases
 mod compare; // compare.rt: what is answered beside what should be
 mod reading; // reading.rt: the cases that read
 mod writing; // writing.rt: the cases that write

@@ -1,23 +1,22 @@
 // The cases that write, each with all of its parts that do. What was written is cleared again where the field can be.
 use super::compare::clears;
 use super::compare::writes;
-use super::fields;
-use kinds::DataType;
+use super::records;
 
 pub fn case_d() -> bool {
-    let field = fields::standard(8, true);
+    let record = records::standard(8, 1);
     let mut payload: [u8; 2] = [0x00, 0x00];
-    if !writes(field, b"", b"\xFF", &mut payload, 2, 4, 0, 2, b"\x0F\xF0") {
+    if !writes(&record, b"", b"\xFF", &mut payload, 2, 4, 0, 2, b"\x0F\xF0") {
         return false;
     }
-    clears(field, b"", &mut payload, 4, 0, b"\x00\x00")
+    clears(&record, b"", &mut payload, 4, 0, b"\x00\x00")
 }
 
 pub fn case_e() -> bool {
-    let field = fields::standard(12, true);
+    let record = records::standard(12, 1);
     let mut payload: [u8; 2] = [0x00, 0x00];
     writes(
-        field,
+        &record,
         b"",
         b"\x0A\xBC",
         &mut payload,
@@ -31,18 +30,18 @@ pub fn case_e() -> bool {
 
 fn writes_under_mask() -> bool {
     let mask = b"\x0F";
-    let field = fields::masked(8, 1, false);
+    let record = records::masked(8, 1);
     let mut payload: [u8; 1] = [0x33];
-    if !writes(field, mask, b"\xA5", &mut payload, 1, 0, 0, 1, b"\x35") {
+    if !writes(&record, mask, b"\xA5", &mut payload, 1, 0, 0, 1, b"\x35") {
         return false;
     }
-    clears(field, mask, &mut payload, 0, 0, b"\x30")
+    clears(&record, mask, &mut payload, 0, 0, b"\x30")
 }
 
 pub fn case_f() -> bool {
-    let field = fields::standard(8, true);
+    let record = records::standard(8, 1);
     let mut payload: [u8; 1] = [0xF0];
-    if !writes(field, b"", b"\x01", &mut payload, 1, 0, 0, 1, b"\xF1") {
+    if !writes(&record, b"", b"\x01", &mut payload, 1, 0, 0, 1, b"\xF1") {
         return false;
     }
     writes_under_mask()
@@ -50,51 +49,61 @@ pub fn case_f() -> bool {
 
 pub fn case_i() -> bool {
     let mask = b"\xF0";
-    let field = fields::masked(8, 1, true);
+    let record = records::condensed(8, 1);
     let mut payload: [u8; 1] = [0x05];
-    if !writes(field, mask, b"\x0A", &mut payload, 1, 0, 0, 1, b"\xA5") {
+    if !writes(&record, mask, b"\x0A", &mut payload, 1, 0, 0, 1, b"\xA5") {
         return false;
     }
-    clears(field, mask, &mut payload, 0, 0, b"\x05")
+    clears(&record, mask, &mut payload, 0, 0, b"\x05")
 }
 
 pub fn case_j() -> bool {
     let mask = b"\xF0";
-    let field = fields::masked(4, 1, true);
+    let record = records::condensed(4, 1);
     let mut payload: [u8; 1] = [0x05];
-    if !writes(field, mask, b"\x0A", &mut payload, 1, 0, 36, 1, b"\x05") {
+    if !writes(&record, mask, b"\x0A", &mut payload, 1, 0, 36, 1, b"\x05") {
         return false;
     }
-    clears(field, mask, &mut payload, 0, 36, b"\x05")
+    clears(&record, mask, &mut payload, 0, 36, b"\x05")
 }
 
 pub fn case_k() -> bool {
     let mask = b"\xFF\xFF";
-    let field = fields::masked(16, 2, true);
+    let record = records::condensed(16, 2);
     let mut payload: [u8; 2] = [0x00, 0x00];
-    writes(field, mask, b"\x12", &mut payload, 2, 0, 0, 2, b"\xFF\x12")
+    writes(
+        &record,
+        mask,
+        b"\x12",
+        &mut payload,
+        2,
+        0,
+        0,
+        2,
+        b"\xFF\x12",
+    )
 }
 
 pub fn case_m() -> bool {
-    let field = fields::leading(DataType::Unicode2String, false, 8);
+    let record = records::leading(6, 0, 8);
     let mut payload: [u8; 4] = [0xEE; 4];
     let after = b"\x41\x02\x00\xEE";
-    writes(field, b"", b"\x41\x00", &mut payload, 0, 0, 0, 3, after)
+    writes(&record, b"", b"\x41\x00", &mut payload, 0, 0, 0, 3, after)
 }
 
 pub fn case_p() -> bool {
-    let field = fields::param();
+    let record = records::param();
     let mut payload: [u8; 3] = [0xEE; 3];
     let after = b"\x34\x12\xEE";
-    writes(field, b"", b"\x12\x34", &mut payload, 0, 0, 0, 2, after)
+    writes(&record, b"", b"\x12\x34", &mut payload, 0, 0, 0, 2, after)
 }
 
 // Text behind a length field of so many bits, into room for 17 bytes.
-fn writes_text(bits: u32, text: &[u8], number: usize, used_after: usize, after: &[u8]) -> bool {
-    let field = fields::leading(DataType::AsciiString, true, bits);
+fn writes_text(bits: u8, text: &[u8], number: usize, used_after: usize, after: &[u8]) -> bool {
+    let record = records::leading(4, 1, bits);
     let mut payload: [u8; 17] = [0xEE; 17];
     writes(
-        field,
+        &record,
         b"",
         text,
         &mut payload,

@@ -8,7 +8,7 @@ use Rattle.coded.specs.declared.variants.DiagCodedTypeVariant.the-varian
 use Rattle.coded.specs.declared.coded_type.DiagCodedType.{DiagCodedType}
 use Rattle.coded.specs.Refusals.{limitsRefusal, madeRefusal}
 
-limits-not-30 : (v : DiagCodedTypeVariant) → eqb (limitsRefusal v) 30 ≡ false
+pub limits-not-30 : (v : DiagCodedTypeVariant) → eqb (limitsRefusal v) 30 ≡ false
 limits-not-30 (MinMaxLength m) = simp (eqb-cond, cond-same)
 limits-not-30 (LeadingLengthInfo bits) = refl
 limits-not-30 (StandardLength s) = refl

@@ -37,7 +37,7 @@ lent f actual =
     (record { report = listed (read (f .bits) (length (f .bytes))); part = f .bytes })
     (record { report = listed (reportAt (f .number) (f .expected) actual); part = [] })
 
--- what the code leaves in the report, and the part that it hands back
+-- what the code leaves as number and report, and the part that it hands back
 abbrev pub lentWith : List ℕ → List ℕ → Lent
 lentWith report part = record { report = report; part = part }
 

@@ -16,10 +16,10 @@ place-not-30 : (p : OptionalPlace) (store : ℕ) → eqb (placeRefusal p store) 
 place-not-30 (At p) store = simp (eqb-cond, cond-same)
 place-not-30 Absent store = refl
 
-sizes-not-30 : (store a b : ℕ) → eqb (sizesRefusal store a b) 30 ≡ false
+pub sizes-not-30 : (store a b : ℕ) → eqb (sizesRefusal store a b) 30 ≡ false
 sizes-not-30 store a b = simp (eqb-cond, cond-same)
 
-described-not-30 : (t : DiagCodedType) (store : ℕ) → eqb (describedRefusal t store) 30 ≡ false
+pub described-not-30 : (t : DiagCodedType) (store : ℕ) → eqb (describedRefusal t store) 30 ≡ false
 described-not-30 t store =
     orElse-not (placeRefusal (placeOf (t .«type_»)) store) (madeRefusal t) 30 (place-not-30 (placeOf (t .«type_»)) store) (made-not-30 t)
 

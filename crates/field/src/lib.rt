@@ -60,7 +60,7 @@ pub fn mask_use(place: OptionalPlace, condensed: bool) -> MaskUse
 }
 
 // 43, of a store and two other slices with so many bytes.
-fn validate_sizes(store_len: usize, first_len: usize, second_len: usize) -> Check
+pub fn validate_sizes(store_len: usize, first_len: usize, second_len: usize) -> Check
     ensures { λ r. ⌜ numberOfCheck r ≡ sizesRefusal «store_len» «first_len» «second_len» ⌝ }
 {
     if 32768 < store_len {
@@ -103,7 +103,7 @@ fn validate_place(place: OptionalPlace, store_len: usize) -> Check
 }
 
 // 42, 12, 13, 10 and 11, however the coded type was made.
-fn validate_description(coded_type: DiagCodedType, store_len: usize) -> Check
+pub fn validate_description(coded_type: DiagCodedType, store_len: usize) -> Check
     ensures { λ r. ⌜ numberOfCheck r ≡ describedRefusal «coded_type» «store_len» ⌝ }
 {
     let type_ = coded_type.type_;

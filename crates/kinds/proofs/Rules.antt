@@ -1,7 +1,7 @@
--- Numbers that rules never give, and what follows where they give none. Assumes nothing.
+-- Numbers that rules never give, and what follows where they give none and tests fail. Assumes nothing.
 use mathlib.Core.Path.{_≡_, refl}
 use mathlib.Core.Logic.{⊎-elim}
-use mathlib.Core.Bool.{Bool, true, false, cond}
+use mathlib.Core.Bool.{Bool, true, false, cond, _||_, true≢false}
 use Prim.Native.Nat.{ℕ}
 use lib.Dec.{eqb}
 use borrow.Author.Tests.{eqb-false, ne-eqb}
@@ -21,6 +21,11 @@ cond-same false t = refl
 
 pub orElse-not : (a b k : ℕ) → eqb a k ≡ false → eqb b k ≡ false → eqb (orElse a b) k ≡ false
 orElse-not a b k ha hb = rw (eqb-cond (eqb a 0) b a k, ha, hb) (cond-same (eqb a 0) false)
+
+-- two tests of which neither holds
+pub neither : (a b : Bool) → (a || b) ≡ false → (a ≡ false) × (b ≡ false)
+neither true b e = absurd (true≢false e)
+neither false b e = (refl, e)
 
 -- where no number is given, no rule holds
 pub rule-zero : (t : Bool) (n b : ℕ) → eqb n 0 ≡ false → cond t n b ≡ 0 → (t ≡ false) × (b ≡ 0)

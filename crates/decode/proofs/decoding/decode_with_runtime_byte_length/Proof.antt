@@ -37,9 +37,6 @@ enum-known-refusal c = search needs
 number-requires : tie.Need-number-requires
 number-requires c κs = search needs
 
-cast-t14 : tie.Need-cast-t14
-cast-t14 c = search needs
-
 slice-aggregate-result : tie.Need-slice-aggregate-result
 slice-aggregate-result c = search needs
 
@@ -111,7 +108,6 @@ decode-with-runtime-byte-length-spec =
     validate-call-requires
     enum-known-refusal
     number-requires
-    cast-t14
     slice-aggregate-result
     returns
     enum-told

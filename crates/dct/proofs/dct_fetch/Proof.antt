@@ -1,0 +1,35 @@
+-- `dct::dct_fetch` meets its contract. Assumes nothing.
+use mathlib.Core.Path.{ap, _∙_}
+use mathlib.Core.List.{[], _∷_}
+use Prim.Native.Nat.{ℕ}
+use Rattle.dct.specs.Boundary.{placesOf, placesFetched}
+use borrow.Author.Needs.{needs}
+use Rattle.dct.proofs.dct_fetch.Statement.{statement}
+use Rattle.dct.proofs.dct_fetch.Tie as tie
+
+fetch-requires : tie.Need-fetch-requires
+fetch-requires c κs = search needs
+
+enum-known-refusal : tie.Need-enum-known-refusal
+enum-known-refusal c = search needs
+
+number-requires : tie.Need-number-requires
+number-requires c κs = search needs
+
+enum-known-entry : tie.Need-enum-known-entry
+enum-known-entry c = search needs
+
+returns : tie.Need-returns
+unfolding placesFetched
+returns c = let r = c .before .before .before .refusal .given in
+    ap (λ (n : ℕ). n ∷ 0 ∷ 0 ∷ 0 ∷ []) (c .number .ensures) ∙ ap placesOf (rw (r .1) at (c .before .before .before .before .before .fetch .ensures))
+
+returns-2 : tie.Need-returns-2
+unfolding placesFetched
+returns-2 c = let e = c .before .before .entry .given in
+    ap placesOf (rw (e .1) at (c .before .before .before .before .fetch .ensures))
+
+pub dct-fetch-spec : {M : Type 1} → statement M
+dct-fetch-spec =
+    tie.close
+    (tie.spec fetch-requires enum-known-refusal number-requires enum-known-entry returns returns-2)

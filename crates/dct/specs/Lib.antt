@@ -1,0 +1,2 @@
+-- What C sees of each call.
+pub mod Boundary

@@ -1,0 +1,2 @@
+-- What is refused of a record is not 30.
+pub mod Prefix

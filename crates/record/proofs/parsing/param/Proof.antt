@@ -1,0 +1,28 @@
+-- `record::param` meets its contract. Assumes nothing.
+use borrow.Author.Tests.{eq-eqb, ne-eqb}
+use borrow.Author.Needs.{needs}
+use Rattle.record.proofs.parsing.param.Statement.{statement}
+use Rattle.record.proofs.parsing.param.Tie as tie
+
+has-limits-requires : tie.Need-has-limits-requires
+has-limits-requires c κs = search needs
+
+returns : tie.Need-returns
+returns c = simp (← (c .before .has-limits .ensures), c .if1 .taken)
+
+has-mask-requires : tie.Need-has-mask-requires
+has-mask-requires c κs = search needs
+
+returns-2 : tie.Need-returns-2
+returns-2 c = simp (← (c .before .before .before .has-limits .ensures), c .before .before .if1 .left, ← (c .before .has-mask .ensures), c .if2 .taken)
+
+returns-3 : tie.Need-returns-3
+returns-3 c = simp (← (c .before .before .before .before .before .has-limits .ensures), c .before .before .before .before .if1 .left, ← (c .before .before .before .has-mask .ensures), c .before .before .if2 .left, ne-eqb _ _ (c .if3 .taken))
+
+returns-4 : tie.Need-returns-4
+returns-4 c = simp (← (c .before .before .before .before .before .before .has-limits .ensures), c .before .before .before .before .before .if1 .left, ← (c .before .before .before .before .has-mask .ensures), c .before .before .before .if2 .left, eq-eqb _ _ (c .before .if3 .left))
+
+pub param-spec : {M : Type 1} → statement M
+param-spec =
+    tie.close
+    (tie.spec has-limits-requires returns has-mask-requires returns-2 returns-3 returns-4)

@@ -1,0 +1,2 @@
+-- The record of a coded type.
+pub mod Storing

@@ -1,0 +1,85 @@
+-- `table::fetch_record` meets its contract. Assumes nothing.
+use native.Mathlib.Nat.{add-sub-cancel-left}
+use Rattle.kinds.proofs.Refused.{never-0}
+use borrow.Author.Tests.{le-leb, lt-leb}
+use borrow.Author.Needs.{needs}
+use Rattle.table.proofs.fetch_record.Statement.{statement}
+use Rattle.table.proofs.fetch_record.Tie as tie
+
+returns : tie.Need-returns
+returns c = simp (le-leb _ _ (c .if1 .taken))
+
+mul-record-at : tie.Need-mul-record-at
+mul-record-at c = search needs
+
+add-record-at : tie.Need-add-record-at
+add-record-at c = search needs
+
+add-end : tie.Need-add-end
+add-end c = search needs
+
+sub-parse : tie.Need-sub-parse
+sub-parse c = search needs
+
+part-parse-start : tie.Need-part-parse-start
+part-parse-start c = search needs
+
+part-parse-end : tie.Need-part-parse-end
+part-parse-end c = search needs
+
+parse-requires : tie.Need-parse-requires
+parse-requires c κs = search needs
+
+enum-told : tie.Need-enum-told
+enum-told c = search needs
+
+enum-known-coded-type : tie.Need-enum-known-coded-type
+enum-known-coded-type c = search needs
+
+validate-description-requires : tie.Need-validate-description-requires
+validate-description-requires c κs = search needs
+
+enum-known-refusal : tie.Need-enum-known-refusal
+enum-known-refusal c = search needs
+
+enum-told-2 : tie.Need-enum-told-2
+enum-told-2 c = search needs
+
+mul-t21 : tie.Need-mul-t21
+mul-t21 c = search needs
+
+add-t22 : tie.Need-add-t22
+add-t22 c = search needs
+
+returns-2 : tie.Need-returns-2
+returns-2 c = simp (lt-leb _ _ (c .before .before .before .before .if1 .left), ← (simp add-sub-cancel-left at (c .before .before .parse .ensures)), c .enum-told .given .1)
+
+returns-3 : tie.Need-returns-3
+returns-3 c = let r = c .before .refusal .given in
+    simp (lt-leb _ _ (c .before .before .before .before .before .before .before .before .before .if1 .left), ← (simp add-sub-cancel-left at (c .before .before .before .before .before .before .before .parse .ensures)), c .before .before .before .before .before .coded-type .given .1, ← (c .before .before .before .validate-description .ensures), r .1, never-0 (r .0 .0))
+
+returns-4 : tie.Need-returns-4
+returns-4 c = simp (lt-leb _ _ (c .before .before .before .before .before .before .before .before .if1 .left), ← (simp add-sub-cancel-left at (c .before .before .before .before .before .before .parse .ensures)), c .before .before .before .before .coded-type .given .1, ← (c .before .before .validate-description .ensures), c .enum-told2 .given .1)
+
+pub fetch-record-spec : {M : Type 1} → statement M
+fetch-record-spec =
+    tie.close
+    (tie.spec
+    returns
+    mul-record-at
+    add-record-at
+    add-end
+    sub-parse
+    part-parse-start
+    part-parse-end
+    parse-requires
+    enum-told
+    enum-known-coded-type
+    validate-description-requires
+    enum-known-refusal
+    enum-told-2
+    mul-t21
+    add-t22
+    returns-2
+    returns-3
+    returns-4)

@@ -1,0 +1,77 @@
+-- Document 01, 'Stored table': the header, and the record with a number. Assumes nothing.
+use Prim.Native.Nat.{ℕ, _+_, _*_}
+use mathlib.Core.Bool.{Bool, cond, not, _&&_, _||_}
+use mathlib.Core.List.{List}
+use lib.ListN.{length, getD}
+use lib.Dec.{eqb, ltb, leb}
+use Rattle.kinds.specs.Answers.{numberOf}
+use Rattle.kinds.specs.Rules.{Outcome, gives, refuses, unless}
+use Rattle.kinds.specs.Slices.{cut}
+use Rattle.coded.specs.declared.coded_type.DiagCodedType.{DiagCodedType}
+use Rattle.field.specs.Refusals.{describedRefusal}
+use Rattle.record.specs.declared.parsing.OptionalCoded.{OptionalCoded}
+use Rattle.record.specs.declared.parsing.OptionalCoded.the-variants as coded
+use Rattle.record.specs.Numbers.{be16, numbersOf}
+use Rattle.record.specs.Parsing.{codedOf}
+use Rattle.table.specs.declared.Header.{Header}
+use Rattle.table.specs.declared.OptionalHeader.{OptionalHeader}
+use Rattle.table.specs.declared.OptionalHeader.the-variants as header
+use Rattle.table.specs.declared.Entry.{Entry}
+use Rattle.table.specs.declared.Fetched.{Fetched}
+use Rattle.table.specs.declared.Fetched.the-variants as fetch
+
+-- mark `DCT`, version 1 in 16 bits
+abbrev pub isMarked : List ℕ → Bool
+isMarked table = eqb (getD table 0 0) 0x44 && eqb (getD table 1 0) 0x43 && eqb (getD table 2 0) 0x54 && eqb (be16 table 3) 1
+
+-- count and store length in 16 bits each
+abbrev pub saidBy : List ℕ → Header
+saidBy table = record { count = be16 table 5; «store_len» = be16 table 7 }
+
+-- a header of 9 bytes, 16-byte records, the store
+abbrev pub recordPlace : ℕ → ℕ
+recordPlace number = 9 + 16 * number
+
+abbrev pub totalSize : Header → ℕ
+totalSize h = recordPlace (h .count) + h .«store_len»
+
+-- 45: mark, version or total size wrong, count above 1,024, store length above 32,768
+abbrev pub isWrong : List ℕ → Header → Bool
+isWrong table h =
+    ltb (length table) 9
+    || not (isMarked table)
+    || ltb 1024 (h .count)
+    || ltb 32768 (h .«store_len»)
+    || not (eqb (length table) (totalSize h))
+
+abbrev pub headerOf : List ℕ → OptionalHeader
+headerOf table = cond (isWrong table (saidBy table)) header.Malformed (header.Valid (saidBy table))
+
+-- the coded type, where the record starts, where the store starts, and the store's length
+abbrev pub entry : Header → ℕ → DiagCodedType → Entry
+entry h number t =
+    record { «coded_type» = t; «record_at» = recordPlace number; «store_at» = recordPlace (h .count); «store_len» = h .«store_len» }
+
+-- 42 of a malformed record or its part outside the store, then 12, 13, 10, 11
+abbrev pub entryOf : Header → ℕ → OptionalCoded → Outcome Entry
+entryOf h number (coded.Coded t) = unless (describedRefusal t (h .«store_len»)) (entry h number t)
+entryOf h number coded.Malformed = refuses 42
+
+-- 42 of an absent record; that record alone is looked at
+abbrev pub recordFetched : List ℕ → Header → ℕ → Outcome Entry
+recordFetched table h number =
+    cond (leb (h .count) number) (refuses 42)
+    (entryOf h number (codedOf (numbersOf (cut (recordPlace number) 16 table))))
+
+abbrev pub fetchedUnder : List ℕ → ℕ → OptionalHeader → Outcome Entry
+fetchedUnder table number (header.Valid h) = recordFetched table h number
+fetchedUnder table number header.Malformed = refuses 45
+
+-- 43, 45, then the record's own
+unfoldable pub fetched : List ℕ → ℕ → Outcome Entry
+fetched table number = cond (ltb 65535 (length table)) (refuses 43) (fetchedUnder table number (headerOf table))
+
+-- the answers of the code, with the paper's numbers
+abbrev pub outcomeOf : Fetched → Outcome Entry
+outcomeOf (fetch.Found e) = gives e
+outcomeOf (fetch.Refused r) = refuses (numberOf r)

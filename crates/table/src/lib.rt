@@ -1,0 +1,120 @@
+// The stored table: its header, and a record fetched by its number.
+ghost use mathlib.Core.Path.{_≡_};
+ghost use Prim.Native.Nat.{_+_, _*_, _≤_};
+ghost use lib.ListN.{length};
+ghost use Rattle.table.specs.Table.{isMarked, headerOf, recordFetched, fetched, outcomeOf};
+use coded::DiagCodedType;
+use kinds::Check;
+use kinds::Refusal;
+use record::OptionalCoded;
+use record::parse;
+use record::read16;
+
+// What the header says: how many records there are, and how many bytes the store has.
+pub struct Header {
+    pub count: usize,
+    pub store_len: usize,
+}
+
+// A record of the table: the coded type that it says, where it starts, and where the store is.
+pub struct Entry {
+    pub coded_type: DiagCodedType,
+    pub record_at: usize,
+    pub store_at: usize,
+    pub store_len: usize,
+}
+
+pub enum OptionalHeader {
+    Valid(Header),
+    Malformed,
+}
+
+pub enum Fetched {
+    Found(Entry),
+    Refused(Refusal),
+}
+
+// The mark `DCT`, and version 1.
+fn is_marked(table: &[u8]) -> bool
+    requires { ⌜ 9 ≤ length (now table) ⌝ }
+    ensures { λ r. ⌜ r ≡ isMarked (now (table .entry)) ⌝ }
+{
+    if table[0] != 0x44 {
+        return false;
+    }
+    if table[1] != 0x43 {
+        return false;
+    }
+    if table[2] != 0x54 {
+        return false;
+    }
+    read16(table, 3) == 1
+}
+
+// 45, of the header and the size of the whole.
+fn read_header(table: &[u8]) -> OptionalHeader
+    requires { ⌜ length (now table) ≤ 65535 ⌝ }
+    ensures { λ r. ⌜ r ≡ headerOf (now (table .entry)) ⌝ }
+{
+    if table.len() < 9 {
+        return OptionalHeader::Malformed;
+    }
+    if !is_marked(table) {
+        return OptionalHeader::Malformed;
+    }
+    let count = read16(table, 5) as usize;
+    let store_len = read16(table, 7) as usize;
+    if 1024 < count {
+        return OptionalHeader::Malformed;
+    }
+    if 32768 < store_len {
+        return OptionalHeader::Malformed;
+    }
+    let total = 9 + 16 * count + store_len;
+    if table.len() != total {
+        return OptionalHeader::Malformed;
+    }
+    OptionalHeader::Valid(Header { count, store_len })
+}
+
+// 42 of a record that is absent or malformed or has its part outside the store, then 12, 13, 10 and 11.
+fn fetch_record(table: &[u8], header: Header, number: usize) -> Fetched
+    requires { ⌜ 9 + 16 * header .count + header .«store_len» ≡ length (now table) ⌝ }
+    requires { ⌜ length (now table) ≤ 65535 ⌝ }
+    ensures { λ r. ⌜ outcomeOf r ≡ recordFetched (now (table .entry)) header number ⌝ }
+{
+    let count = header.count;
+    let store_len = header.store_len;
+    if count <= number {
+        return Fetched::Refused(Refusal::MalformedRecord);
+    }
+    let record_at = 9 + 16 * number;
+    let end = record_at + 16;
+    match parse(&table[record_at..end]) {
+        OptionalCoded::Malformed => Fetched::Refused(Refusal::MalformedRecord),
+        OptionalCoded::Coded(coded_type) => {
+            match field::validate_description(coded_type, store_len) {
+                Check::Refused(refusal) => Fetched::Refused(refusal),
+                Check::Passed => Fetched::Found(Entry {
+                    coded_type,
+                    record_at,
+                    store_at: 9 + 16 * count,
+                    store_len,
+                }),
+            }
+        }
+    }
+}
+
+// The record with a number, from 0. The header is checked, and that record alone.
+pub fn fetch(table: &[u8], number: usize) -> Fetched
+    ensures { λ r. ⌜ outcomeOf r ≡ fetched (now (table .entry)) number ⌝ }
+{
+    if 65535 < table.len() {
+        return Fetched::Refused(Refusal::SliceTooLong);
+    }
+    match read_header(table) {
+        OptionalHeader::Malformed => Fetched::Refused(Refusal::MalformedTable),
+        OptionalHeader::Valid(header) => fetch_record(table, header, number),
+    }
+}
