@@ -254,6 +254,8 @@ static void records_at_random(int count)
     }
 }
 
+/* Each slice alone at every length with one record; then every kind of field with several slices at lengths near the limits,
+ * and 61 apart between them, since a field that takes the whole payload costs its length. */
 static void every_length(void)
 {
     struct question q;
@@ -264,8 +266,9 @@ static void every_length(void)
         q = usual, q.record = n, all(&q);
         q = usual, q.store = n, all(&q);
         q = usual, q.input = n, all(&q);
+        q = usual, q.output = n, all(&q);
+        q = usual, q.payload = n, q.used = n / 2, all(&q);
     }
-    record(bases[0]);
     for (n = 0; n <= SLICE + 2; n += n < 64 || n > SLICE - 64 || (n > STORE - 64 && n < STORE + 64) ? 1 : 61)
         for (base = 0; base < BASES; base++) {
             record(bases[base]);
