@@ -1,0 +1,118 @@
+//! A call of the library with all that is lent to it, and the whole of its answer.
+use std::fmt;
+
+#[derive(Clone, Debug)]
+pub struct Case {
+    pub record: Vec<u8>,
+    pub store: Vec<u8>,
+    pub call: Call,
+}
+
+#[derive(Clone, Debug)]
+pub enum Call {
+    Decode { payload: Vec<u8>, byte_pos: usize, bit_pos: usize, output: Vec<u8> },
+    Encode { input: Vec<u8>, payload: Vec<u8>, used: usize, byte_pos: usize, bit_pos: usize },
+    Clear { payload: Vec<u8>, used: usize, byte_pos: usize, bit_pos: usize },
+    Read { payload: Vec<u8>, byte_pos: usize, byte_count: usize },
+    Fetch { table: Vec<u8>, number: usize },
+}
+
+impl Call {
+    pub const NAMES: [&'static str; 5] = ["decode", "encode", "clear", "read", "fetch"];
+
+    /// Where the call's name stands in `NAMES`.
+    pub fn kind(&self) -> usize {
+        match self {
+            Call::Decode { .. } => 0,
+            Call::Encode { .. } => 1,
+            Call::Clear { .. } => 2,
+            Call::Read { .. } => 3,
+            Call::Fetch { .. } => 4,
+        }
+    }
+}
+
+/// All that follows from a call's input: nothing that the library lets a caller see is left out.
+#[derive(Clone, Debug, Default, PartialEq, Eq)]
+pub struct Answer {
+    pub number: u32,
+    /// Bit count, byte count, expected, actual.
+    pub report: [usize; 4],
+    /// The output after a decode, the payload after an encode or a clear, the part that a read found.
+    pub bytes: Vec<u8>,
+    /// The used length after an encode.
+    pub used: usize,
+    /// Where a read's part starts; the three places of a fetch.
+    pub places: [usize; 3],
+}
+
+impl Answer {
+    /// A refusal, which leaves what was lent as it came.
+    pub fn refused(number: u32, call: &Call) -> Answer {
+        let (bytes, used) = match call {
+            Call::Decode { output, .. } => (output.clone(), 0),
+            Call::Encode { payload, used, .. } => (payload.clone(), *used),
+            Call::Clear { payload, .. } => (payload.clone(), 0),
+            Call::Read { .. } | Call::Fetch { .. } => (Vec::new(), 0),
+        };
+        Answer { number, bytes, used, ..Answer::default() }
+    }
+
+    /// The refusal 30.
+    pub fn short(expected: usize, actual: usize, call: &Call) -> Answer {
+        Answer { report: [0, 0, expected, actual], ..Answer::refused(30, call) }
+    }
+}
+
+/// Bytes as two hexadecimal digits each; long ones are cut.
+struct Hex<'a>(&'a [u8]);
+
+impl fmt::Display for Hex<'_> {
+    fn fmt(&self, f: &mut fmt::Formatter) -> fmt::Result {
+        write!(f, "[{}]", self.0.len())?;
+        for byte in self.0.iter().take(80) {
+            write!(f, " {byte:02X}")?;
+        }
+        f.write_str(if self.0.len() > 80 { " .." } else { "" })
+    }
+}
+
+impl fmt::Display for Case {
+    fn fmt(&self, f: &mut fmt::Formatter) -> fmt::Result {
+        writeln!(f, "  {}", Call::NAMES[self.call.kind()])?;
+        writeln!(f, "  record {}", Hex(&self.record))?;
+        writeln!(f, "  store {}", Hex(&self.store))?;
+        match &self.call {
+            Call::Decode { payload, byte_pos, bit_pos, output } => {
+                writeln!(f, "  payload {}", Hex(payload))?;
+                writeln!(f, "  byte {byte_pos}, bit {bit_pos}")?;
+                write!(f, "  output {}", Hex(output))
+            }
+            Call::Encode { input, payload, used, byte_pos, bit_pos } => {
+                writeln!(f, "  input {}", Hex(input))?;
+                writeln!(f, "  payload {}", Hex(payload))?;
+                write!(f, "  used {used}, byte {byte_pos}, bit {bit_pos}")
+            }
+            Call::Clear { payload, used, byte_pos, bit_pos } => {
+                writeln!(f, "  payload {}", Hex(payload))?;
+                write!(f, "  used {used}, byte {byte_pos}, bit {bit_pos}")
+            }
+            Call::Read { payload, byte_pos, byte_count } => {
+                writeln!(f, "  payload {}", Hex(payload))?;
+                write!(f, "  byte {byte_pos}, byte count {byte_count}")
+            }
+            Call::Fetch { table, number } => {
+                writeln!(f, "  table {}", Hex(table))?;
+                write!(f, "  number {number}")
+            }
+        }
+    }
+}
+
+impl fmt::Display for Answer {
+    fn fmt(&self, f: &mut fmt::Formatter) -> fmt::Result {
+        let [bits, bytes, expected, actual] = self.report;
+        write!(f, "{}, {bits} bits, {bytes} bytes, expected {expected}, actual {actual}, ", self.number)?;
+        write!(f, "used {}, places {:?}, bytes {}", self.used, self.places, Hex(&self.bytes))
+    }
+}

@@ -1,0 +1,56 @@
+//! Holds our library to the original: `differential` and one of the words below.
+mod bench;
+mod case;
+mod damaged;
+mod exhaustive;
+mod expected;
+mod field;
+mod large;
+mod library;
+mod original_side;
+mod random;
+mod tally;
+
+use std::process::ExitCode;
+use tally::{Tally, run};
+
+const USAGE: &str = "differential short [SEED]   the runs of about a minute
+differential long [SEED]    all short inputs, and over 200 million calls
+differential bench          our library beside the original, timed and counted";
+
+/// The four runs: one in so many of the short inputs, and so many of the others.
+fn runs(seed: u64, every: u64, random: u64, damaged: u64, large: u64) -> bool {
+    println!("seed {seed}");
+    let lists = exhaustive::Lists::new();
+    let short = exhaustive::count(&lists);
+    let mut total = Tally::new();
+    total.add(&run("short inputs", short.div_ceil(every), |n| exhaustive::case(&lists, n * every), &library::call));
+    total.add(&run("random", random, |n| random::case(seed, n), &library::call));
+    total.add(&run("damaged", damaged, |n| damaged::case(seed, n), &library::call));
+    total.add(&run("large", large, |n| large::case(seed, n), &library::call));
+    let all_met = total.show_numbers();
+    println!("total: {} calls, {} differences", total.calls, total.differences);
+    all_met && total.differences == 0
+}
+
+fn main() -> ExitCode {
+    let words: Vec<String> = std::env::args().skip(1).collect();
+    let words: Vec<&str> = words.iter().map(String::as_str).collect();
+    let seed = |word: &str| word.parse().unwrap_or_else(|_| panic!("not a seed: {word}"));
+    let done = match words[..] {
+        ["short"] => runs(1, 11, 8_000_000, 4_000_000, 2_000),
+        ["short", word] => runs(seed(word), 11, 8_000_000, 4_000_000, 2_000),
+        ["long"] => runs(1, 1, 150_000_000, 50_000_000, 40_000),
+        ["long", word] => runs(seed(word), 1, 150_000_000, 50_000_000, 40_000),
+        ["bench"] => bench::run(),
+        ["spin", label, side, times] => {
+            bench::spin(label, side, times.parse().expect("a number of calls"));
+            true
+        }
+        _ => {
+            eprintln!("{USAGE}");
+            return ExitCode::from(2);
+        }
+    };
+    if done { ExitCode::SUCCESS } else { ExitCode::FAILURE }
+}

@@ -1,0 +1,89 @@
+//! The original's side of a call: a coded type built through its constructors, and its messages turned into our numbers.
+use crate::field::{self, Field, Variant};
+use original::DiagServiceError;
+use original::diag_coded_type::{
+    DataType, DiagCodedType, DiagCodedTypeVariant, MinMaxLengthType, StandardLengthType, Termination,
+};
+
+/// A refusal of the original: our number, and for 30 what it expected and found.
+#[derive(Debug, PartialEq, Eq)]
+pub struct Refusal {
+    pub number: u32,
+    pub expected: usize,
+    pub actual: usize,
+}
+
+/// The words by which each message is known. No message has the words of an earlier line.
+const WORDS: [(&str, u32); 22] = [
+    ("are only allowed for ByteField, AsciiString", 10),
+    ("needs an even amount of min/max bytes", 11),
+    ("max_length cannot be 0", 12),
+    ("cannot be less than min_length", 13),
+    ("Bit position must be 0 for", 20),
+    ("Cannot extract data with length 0", 21),
+    ("Length must be at most 64 bit", 22),
+    ("Length must be exactly 32 bit", 23),
+    ("Length must be exactly 64 bit", 24),
+    ("Length must be a multiple of 16 bit", 25),
+    ("BitPosition range is 0..=7", 26),
+    ("exceeds data length", 27),
+    ("Payload slice for leading length out of bounds", 31),
+    ("unsupported leading length size", 32),
+    ("Length byte count out of bounds", 32),
+    ("exceeds the maximum value of the", 33),
+    ("Not enough data in payload, needed", 34),
+    ("Cannot insert 0 bits", 35),
+    ("StandardLengthType input data length", 36),
+    ("requires a runtime-resolved byte length", 37),
+    ("Failed to create length info", 38),
+    ("", 99),
+];
+
+impl From<DiagServiceError> for Refusal {
+    /// 10 and 37 are faults of the database and all others of the payload; a text in the wrong class, or one that is not
+    /// listed, has the number 99, which the library never gives.
+    fn from(error: DiagServiceError) -> Refusal {
+        let (text, of_the_database) = match error {
+            DiagServiceError::NotEnoughData { expected, actual } => return Refusal { number: 30, expected, actual },
+            DiagServiceError::InvalidDatabase(text) => (text, true),
+            DiagServiceError::BadPayload(text) => (text, false),
+        };
+        let number = WORDS.iter().find(|(words, _)| text.contains(words)).map_or(99, |(_, number)| *number);
+        let number = if matches!(number, 10 | 37) == of_the_database { number } else { 99 };
+        Refusal { number, expected: 0, actual: 0 }
+    }
+}
+
+/// The coded type of a field, through `MinMaxLengthType::new` and then `new`.
+pub fn coded_type(field: &Field) -> Result<DiagCodedType, Refusal> {
+    let data_type = match field.data_type {
+        field::INT32 => DataType::Int32,
+        field::UINT32 => DataType::UInt32,
+        field::FLOAT32 => DataType::Float32,
+        field::ASCII => DataType::AsciiString,
+        field::UTF8 => DataType::Utf8String,
+        field::UNICODE2 => DataType::Unicode2String,
+        field::BYTE_FIELD => DataType::ByteField,
+        field::FLOAT64 => DataType::Float64,
+        other => panic!("no type has the code {other}"),
+    };
+    let variant = match &field.variant {
+        Variant::Leading(bits) => DiagCodedTypeVariant::LeadingLengthInfo(*bits),
+        Variant::MinMax { min, max, termination } => {
+            let termination = match *termination {
+                field::END_OF_PDU => Termination::EndOfPdu,
+                field::ZERO => Termination::Zero,
+                _ => Termination::HexFF,
+            };
+            DiagCodedTypeVariant::MinMaxLength(MinMaxLengthType::new(*min, *max, termination)?)
+        }
+        Variant::Standard { bits, mask, condensed } => DiagCodedTypeVariant::StandardLength(StandardLengthType {
+            bit_length: *bits,
+            bit_mask: mask.clone(),
+            condensed: *condensed,
+        }),
+        // its names are UTF-8, and no answer depends on them
+        Variant::Param(name) => DiagCodedTypeVariant::ParamLengthInfo(String::from_utf8_lossy(name).into_owned()),
+    };
+    Ok(DiagCodedType::new(data_type, variant, field.high_low)?)
+}
