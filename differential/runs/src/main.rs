@@ -9,6 +9,7 @@ mod large;
 mod library;
 mod original_side;
 mod random;
+mod stored;
 mod tally;
 
 use std::process::ExitCode;
@@ -16,7 +17,8 @@ use tally::{Tally, run};
 
 const USAGE: &str = "differential short [SEED]   the runs of about a minute
 differential long [SEED]    all short inputs, and over 200 million calls
-differential bench          our library beside the original, timed and counted";
+differential bench          our library beside the original, timed and counted
+differential store          the answers of the original that the program replay makes again, to the standard output";
 
 /// The four runs: one in so many of the short inputs, and so many of the others.
 fn runs(seed: u64, every: u64, random: u64, damaged: u64, large: u64) -> bool {
@@ -43,6 +45,7 @@ fn main() -> ExitCode {
         ["long"] => runs(1, 1, 150_000_000, 50_000_000, 40_000),
         ["long", word] => runs(seed(word), 1, 150_000_000, 50_000_000, 40_000),
         ["bench"] => bench::run(),
+        ["store"] => stored::run(1),
         ["spin", label, side, times] => {
             bench::spin(label, side, times.parse().expect("a number of calls"));
             true

@@ -34,11 +34,22 @@ impl Tally {
         }
     }
 
+    /// Counts a call and its number.
+    pub fn count(&mut self, case: &Case, answer: &Answer) {
+        self.calls += 1;
+        self.numbers[case.call.kind()][answer.number as usize] += 1;
+    }
+
+    /// How often a call gave each number.
+    pub fn numbers_of(&self, kind: usize) -> String {
+        let counts = self.numbers[kind].iter().enumerate().filter(|(_, count)| **count > 0);
+        counts.map(|(number, count)| format!("{number}: {count}")).collect::<Vec<_>>().join(", ")
+    }
+
     /// Compares one case, and says where the answers differ.
     pub fn compare(&mut self, case: &Case, library: Library) -> Option<String> {
         let expected = expected(case, &mut self.met);
-        self.calls += 1;
-        self.numbers[case.call.kind()][expected.number as usize] += 1;
+        self.count(case, &expected);
         let said = match library(case) {
             Ok(answer) if answer == expected => return None,
             Ok(answer) => format!("{case}\n  ours     {answer}\n  expected {expected}"),
@@ -63,9 +74,7 @@ impl Tally {
     pub fn show_numbers(&self) -> bool {
         let mut all = true;
         for (kind, name) in Call::NAMES.iter().enumerate() {
-            let met: Vec<String> =
-                (0..100).filter(|n| self.numbers[kind][*n] > 0).map(|n| format!("{n}: {}", self.numbers[kind][n])).collect();
-            println!("{name}: {}", met.join(", "));
+            println!("{name}: {}", self.numbers_of(kind));
             let missing: Vec<&u32> = NUMBERS[kind].iter().filter(|n| self.numbers[kind][**n as usize] == 0).collect();
             if !missing.is_empty() {
                 println!("{name}: never met {missing:?}");
