@@ -10,9 +10,10 @@ fn cut(text: &str, name: &str) -> String {
 
 fn main() {
     println!("cargo::rerun-if-env-changed=CDA_SRC");
-    let here = env::var("CARGO_MANIFEST_DIR").unwrap();
-    let tree = env::var("CDA_SRC").unwrap_or_else(|_| format!("{here}/../../../shared/docs/src"));
-    let source = Path::new(&tree).join("cda-interfaces/src/util.rs");
+    // from the repository's root, as all of its commands are called
+    let root = Path::new(&env::var("CARGO_MANIFEST_DIR").unwrap()).join("../..");
+    let tree = env::var("CDA_SRC").unwrap_or_else(|_| "../shared/docs/src".to_owned());
+    let source = root.join(tree).join("cda-interfaces/src/util.rs");
     println!("cargo::rerun-if-changed={}", source.display());
     let text =
         fs::read_to_string(&source).unwrap_or_else(|e| panic!("{}: {e}; CDA_SRC names the source tree", source.display()));

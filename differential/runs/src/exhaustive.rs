@@ -94,9 +94,9 @@ fn param(c: &mut Choices, _: &Lists) -> Field {
 type Fielded = fn(&mut Choices, &Lists) -> Field;
 type Called = fn(&mut Choices, &Lists, &mut Random) -> Call;
 
-fn decode(c: &mut Choices, payloads: &[Vec<u8>], byte_positions: usize, bit_positions: usize, random: &mut Random) -> Call {
+fn decode(c: &mut Choices, payloads: &[Vec<u8>], byte_positions: usize, random: &mut Random) -> Call {
     let payload = c.of(payloads).clone();
-    let (byte_pos, bit_pos) = (c.below(byte_positions), c.below(bit_positions));
+    let (byte_pos, bit_pos) = (c.below(byte_positions), c.below(10));
     Call::Decode { payload, byte_pos, bit_pos, output: vec![0xEE; random.pick(&[16, 16, 16, 0, 1, 2])] }
 }
 
@@ -118,16 +118,16 @@ fn read(c: &mut Choices, _: &Lists, _: &mut Random) -> Call {
 }
 
 const FAMILIES: [(Fielded, Called); 12] = [
-    (standard, |c, lists, random| decode(c, &lists.payloads, 2, 10, random)),
+    (standard, |c, lists, random| decode(c, &lists.payloads, 2, random)),
     (standard, encode),
     (standard, clear),
-    (leading, |c, lists, random| decode(c, &lists.length_fields, 3, 10, random)),
+    (leading, |c, lists, random| decode(c, &lists.length_fields, 3, random)),
     (leading, encode),
     (leading, clear),
-    (min_max, |c, lists, random| decode(c, &lists.terminated, 6, 2, random)),
+    (min_max, |c, lists, random| decode(c, &lists.terminated, 6, random)),
     (min_max, encode),
     (min_max, clear),
-    (param, |c, lists, random| decode(c, &lists.payloads, 2, 10, random)),
+    (param, |c, lists, random| decode(c, &lists.payloads, 2, random)),
     (param, encode),
     (param, read),
 ];

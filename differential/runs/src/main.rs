@@ -4,6 +4,7 @@ mod case;
 mod damaged;
 mod exhaustive;
 mod expected;
+mod faults;
 mod field;
 mod large;
 mod library;
@@ -18,6 +19,7 @@ use tally::{Tally, run};
 const USAGE: &str = "differential short [SEED]   the runs of about a minute
 differential long [SEED]    all short inputs, and over 200 million calls
 differential bench          our library beside the original, timed and counted
+differential faults         that the runs can fail: libraries with a small fault each, and where that shows
 differential store          the answers of the original that the program replay makes again, to the standard output";
 
 /// The four runs: one in so many of the short inputs, and so many of the others.
@@ -40,11 +42,12 @@ fn main() -> ExitCode {
     let words: Vec<&str> = words.iter().map(String::as_str).collect();
     let seed = |word: &str| word.parse().unwrap_or_else(|_| panic!("not a seed: {word}"));
     let done = match words[..] {
-        ["short"] => runs(1, 11, 8_000_000, 4_000_000, 2_000),
-        ["short", word] => runs(seed(word), 11, 8_000_000, 4_000_000, 2_000),
+        ["short"] => runs(1, 5, 20_000_000, 8_000_000, 4_000),
+        ["short", word] => runs(seed(word), 5, 20_000_000, 8_000_000, 4_000),
         ["long"] => runs(1, 1, 150_000_000, 50_000_000, 40_000),
         ["long", word] => runs(seed(word), 1, 150_000_000, 50_000_000, 40_000),
         ["bench"] => bench::run(),
+        ["faults"] => faults::run(),
         ["store"] => stored::run(1),
         ["spin", label, side, times] => {
             bench::spin(label, side, times.parse().expect("a number of calls"));

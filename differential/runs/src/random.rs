@@ -201,7 +201,6 @@ fn call(random: &mut Random, field: &Field) -> Call {
 pub fn case(seed: u64, number: u64) -> Case {
     let mut random = Random::new(seed, number);
     let field = field(&mut random);
-    // a numeric Standard field is what a clear is for
     let front = random.below(3);
     let mut store = random.bytes(front);
     let record = field.record(store.len() as u16);
