@@ -7,7 +7,7 @@ use super::parts::part;
 use super::parts::part_mut;
 
 // What no stored number is, so that one left unwritten shows.
-const UNWRITTEN: usize = 40000;
+const UNWRITTEN: usize = 2147483648;
 
 // Whether the bytes are those stored, and behind them still what they were before the call.
 fn left_as_stored(bytes: &[u8], before: &[u8], after: &[u8]) -> bool {
@@ -24,7 +24,7 @@ fn left_as_stored(bytes: &[u8], before: &[u8], after: &[u8]) -> bool {
     check::same(&bytes[front..], &before[front..])
 }
 
-pub fn decodes(head: [u8; 17], record: &[u8], store: &[u8], payload: &[u8], after: &[u8]) -> bool {
+pub fn decodes(head: [u8; 21], record: &[u8], store: &[u8], payload: &[u8], after: &[u8]) -> bool {
     let room = wide(head[6]);
     let blank: [u8; 256] = [0xEE; 256];
     let mut space: [u8; 256] = [0xEE; 256];
@@ -46,7 +46,7 @@ pub fn decodes(head: [u8; 17], record: &[u8], store: &[u8], payload: &[u8], afte
 }
 
 pub fn encodes(
-    head: [u8; 17],
+    head: [u8; 21],
     record: &[u8],
     store: &[u8],
     input: &[u8],
@@ -76,7 +76,7 @@ pub fn encodes(
 }
 
 pub fn clears(
-    head: [u8; 17],
+    head: [u8; 21],
     record: &[u8],
     store: &[u8],
     payload: &mut [u8],
@@ -100,7 +100,7 @@ pub fn clears(
     false
 }
 
-pub fn reads(head: [u8; 17], record: &[u8], store: &[u8], payload: &[u8], after: &[u8]) -> bool {
+pub fn reads(head: [u8; 21], record: &[u8], store: &[u8], payload: &[u8], after: &[u8]) -> bool {
     let mut place = UNWRITTEN;
     let mut report: [usize; 4] = [UNWRITTEN; 4];
     let number = dct::dct_read(

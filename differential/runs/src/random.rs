@@ -145,9 +145,17 @@ fn payload(random: &mut Random, field: &Field, at: usize, length: usize) -> Vec<
             let end = at.saturating_add(bits.div_ceil(8) as usize);
             if let Some(length_field) = payload.get_mut(at.min(length)..end.min(length)) {
                 length_field.fill(0);
-                // as a big-endian number or, for a pair turned, with the number one byte earlier
-                if let Some(last) = length_field.iter_mut().rev().nth(usize::from(random.percent(25))) {
-                    *last = random.below(8) as u8;
+                // the count in the last byte, as pairs turned have it in the one before, or anywhere
+                let anywhere = random.below(8);
+                let from_last = random.pick(&[0, 0, 0, 0, 0, 1, 1, anywhere]);
+                if let Some(byte) = length_field.iter_mut().rev().nth(from_last) {
+                    *byte = random.below(8) as u8;
+                }
+                // bits above the field's are not looked at
+                if let (true, 1..) = (random.percent(30), bits % 8)
+                    && let Some(byte) = length_field.first_mut()
+                {
+                    *byte |= (random.next() as u8) << (bits % 8);
                 }
             }
         }

@@ -59,11 +59,11 @@ fn stored(case: &Case, answer: &Answer) -> Option<Vec<u8>> {
     let mut bytes =
         vec![code, byte(answer.number as usize)?, byte(case.store.len())?, byte(input.len())?, byte(payload.len())?];
     bytes.extend([byte(after.len())?, byte(lent)?, byte(left)?]);
-    bytes.extend(far(byte_pos, 2)?);
+    bytes.extend(far(byte_pos, 4)?);
     bytes.extend(far(bit_pos, 1)?);
     bytes.extend(u16::try_from(bit_count).ok()?.to_be_bytes());
     bytes.push(byte(byte_count)?);
-    bytes.extend(far(expected, 2)?);
+    bytes.extend(far(expected, 4)?);
     bytes.push(byte(actual)?);
     for part in [&case.record, &case.store, input, payload, after] {
         bytes.extend(part);
