@@ -2,6 +2,7 @@
 mod bench;
 mod case;
 mod damaged;
+mod edits;
 mod exhaustive;
 mod expected;
 mod faults;
@@ -20,6 +21,7 @@ const USAGE: &str = "differential short [SEED]   the runs of about a minute
 differential long [SEED]    all short inputs, and over 200 million calls
 differential bench          our library beside the original, timed and counted
 differential faults         that the runs can fail: libraries with a small fault each, and where that shows
+differential edits          wrong edits of the library's source, and how many stored answers they change
 differential store          the answers of the original that the program replay makes again, to the standard output";
 
 /// The four runs: one in so many of the short inputs, and so many of the others.
@@ -48,6 +50,7 @@ fn main() -> ExitCode {
         ["long", word] => runs(seed(word), 1, 150_000_000, 50_000_000, 40_000),
         ["bench"] => bench::run(),
         ["faults"] => faults::run(),
+        ["edits"] => edits::run(),
         ["store"] => stored::run(1),
         ["spin", label, side, times] => {
             bench::spin(label, side, times.parse().expect("a number of calls"));

@@ -1,0 +1,100 @@
+//! Wrong edits of the library's source, noticed without a proof: each must-fail edit of code is put into a copy, and the program
+//! `replay`, compiled but not proved, makes the stored answers again.
+use std::path::{Path, PathBuf};
+use std::process::Command;
+use std::{env, fs, io};
+
+/// The edits that the stored answers cannot show, and why.
+const OUT_OF_REACH: [(&str, &str); 11] = [
+    ("bits/set_two_bits", "nobody passes more than a bit"),
+    ("coded/byte_order_lost", "no exported function calls `new`"),
+    ("dct/places_on_refusal", "no fetch is stored"),
+    ("dct/store_for_the_record", "no fetch is stored"),
+    ("field/number_on_success", "no exported function gives names"),
+    ("field/payload_of_any_size", "no slice stored is as long as 43 needs"),
+    ("field/store_as_long_as_a_payload", "no slice stored is as long as 43 needs"),
+    ("record/record_past_its_limit", "no slice stored is as long as 43 needs"),
+    ("record/sizes_of_another_slice", "no slice stored is as long as 43 needs"),
+    ("table/another_record", "no fetch is stored"),
+    ("table/total_size_not_tested", "no fetch is stored"),
+];
+
+/// A must-fail edit of a source file: the file, and what is put in place of what.
+struct Edit {
+    name: String,
+    file: PathBuf,
+    changes: Vec<(String, String)>,
+}
+
+/// The names in a folder, in order.
+fn names(folder: &Path) -> Vec<String> {
+    let entries = fs::read_dir(folder).into_iter().flatten().flatten();
+    let mut names: Vec<String> = entries.map(|entry| entry.file_name().to_string_lossy().into_owned()).collect();
+    names.sort();
+    names
+}
+
+/// The edit, if it is one of code.
+fn read(crates: &Path, name: &str, label: &str) -> Option<Edit> {
+    let text = fs::read_to_string(crates.join(name).join("must-fail").join(label)).ok()?;
+    let after = |word| text.lines().filter_map(move |line: &str| line.strip_prefix(word)).map(str::to_owned);
+    let file = after("file: ").next()?;
+    let changes = after("old: ").zip(after("new: ")).collect();
+    let name_of_edit = format!("{name}/{}", label.strip_suffix(".edit")?);
+    file.starts_with("src/").then(|| Edit { name: name_of_edit, file: Path::new(name).join(file), changes })
+}
+
+fn copy(from: &Path, to: &Path) -> io::Result<()> {
+    if from.is_file() {
+        return fs::copy(from, to).map(|_| ());
+    }
+    fs::create_dir_all(to)?;
+    names(from).iter().try_for_each(|name| copy(&from.join(name), &to.join(name)))
+}
+
+/// How many of the stored answers come out otherwise with the edit; none if the program did not end.
+fn others(work: &Path, edit: &Edit) -> Option<u64> {
+    let file = work.join("crates").join(&edit.file);
+    let before = fs::read_to_string(&file).expect("the file of an edit");
+    let edited = edit.changes.iter().fold(before.clone(), |text, (old, new)| text.replacen(old, new, 1));
+    assert!(edited != before, "{} changes nothing", edit.name);
+    fs::write(&file, edited).expect("an edited file");
+    let run = Command::new("rt").args(["try", "replay"]).current_dir(work).output().expect("the command rt");
+    fs::write(&file, before).expect("the file as it was");
+    let said = String::from_utf8_lossy(&run.stdout).into_owned() + &String::from_utf8_lossy(&run.stderr);
+    let optimised = said.split("the native program at -O3 ").nth(1)?;
+    if optimised.starts_with("ended and wrote what is expected") {
+        return Some(0);
+    }
+    let found = optimised.split("found \"").nth(1)?;
+    found.split(" the same, ").nth(1)?.split(' ').next()?.parse().ok()
+}
+
+/// Prints what each edit changes, and answers whether all show but those out of reach.
+pub fn run() -> bool {
+    let root = Path::new(env!("CARGO_MANIFEST_DIR")).join("../..");
+    let work = env::temp_dir().join(format!("edits-{}", std::process::id()));
+    copy(&root.join("crates"), &work.join("crates")).expect("a copy of the crates");
+    copy(&root.join("crates.txt"), &work.join("crates.txt")).expect("a copy of the list of crates");
+    let (mut shown, mut as_said) = (0, true);
+    for name in names(&root.join("crates")) {
+        for label in names(&root.join("crates").join(&name).join("must-fail")) {
+            // what `storing` writes nobody exports
+            let Some(edit) = read(&root.join("crates"), &name, &label).filter(|_| name != "storing") else { continue };
+            let why = OUT_OF_REACH.iter().find(|(name, _)| *name == edit.name).map(|(_, why)| why);
+            match (others(&work, &edit), why) {
+                (Some(0), Some(why)) => println!("{}: none; {why}", edit.name),
+                (Some(count @ 1..), None) => {
+                    println!("{}: {count}", edit.name);
+                    shown += 1;
+                }
+                (count, _) => {
+                    println!("{}: {count:?}, WHICH IS NOT WHAT IS SAID OF IT", edit.name);
+                    as_said = false;
+                }
+            }
+        }
+    }
+    println!("{shown} edits change stored answers, {} cannot", OUT_OF_REACH.len());
+    fs::remove_dir_all(&work).is_ok() && as_said
+}
