@@ -3,12 +3,13 @@ use mathlib.Core.Path.{_≡_, refl, sym, ap, _∙_}
 use mathlib.Core.Logic.{⊎-elim}
 use mathlib.Core.Bool.{cond}
 use mathlib.Core.List.{List, [], _∷_, reverse, reverse-cons, reverse-reverse}
-use Prim.Native.Nat.{ℕ, zero, suc, _+_, _-_, _%_, _≤_, _<_}
+use Prim.Native.Nat.{ℕ, zero, suc, _+_, _-_, _*_, _/_, _%_, _≤_, _<_}
 use native.Mathlib.Omega.{arith}
 use lib.ListN.{length, getD, length-reverse, List·getD-append}
 use lib.Seq.{getD-at}
-use lib.Dec.{ltb, eqb}
-use borrow.Author.Tests.{lt-ltb, le-ltb, eq-eqb, ne-eqb}
+use lib.Dec.{ltb}
+use lib.Bits.{bitXor, differ, xor-step, xor-zero-r}
+use borrow.Author.Tests.{lt-ltb, le-ltb}
 use Rattle.kinds.specs.declared.types.ByteOrder.{ByteOrder}
 use Rattle.kinds.specs.declared.types.ByteOrder.the-variants.{Keep, ReorderPairs, Reverse}
 use Rattle.kinds.proofs.Compare.{below, same}
@@ -17,7 +18,7 @@ use Rattle.order.specs.Order.{ordered, swapPairs}
 -- of n bytes, where the byte stands that ordering puts at j
 unfoldable pub turned : ByteOrder → ℕ → ℕ → ℕ
 turned Keep n j = j
-turned ReorderPairs n j = cond (eqb (j % 2) 1) (j - 1) (cond (ltb (j + 1) n) (j + 1) j)
+turned ReorderPairs n j = cond (ltb (bitXor j 1) n) (bitXor j 1) j
 turned Reverse n j = n - 1 - j
 
 pub length-swapPairs : (xs : List ℕ) → length (swapPairs xs) ≡ length xs
@@ -78,13 +79,25 @@ swapped-last (x ∷ y ∷ rest) zero e l = absurd (omega arith)
 swapped-last (x ∷ y ∷ rest) (suc zero) e l = absurd (omega arith)
 swapped-last (x ∷ y ∷ rest) (suc (suc j)) e l = swapped-last rest j (omega arith) (omega arith)
 
+-- a byte's partner has the same place but for the lowest bit
+partner : (j : ℕ) → bitXor j 1 ≡ j / 2 * 2 + differ (j % 2) 1
+partner j = xor-step j 1 ∙ ap (λ (h : ℕ). h * 2 + differ (j % 2) 1) (xor-zero-r (j / 2))
+
+partner-odd : (j : ℕ) → j % 2 ≡ 1 → bitXor j 1 ≡ j - 1
+partner-odd j p = partner j ∙ ap (λ (r : ℕ). j / 2 * 2 + differ r 1) p ∙ omega arith
+
+partner-even : (j : ℕ) → (j % 2 ≡ 1 → ⊥) → bitXor j 1 ≡ j + 1
+partner-even j p = let q : j % 2 ≡ 0 = omega arith in partner j ∙ ap (λ (r : ℕ). j / 2 * 2 + differ r 1) q ∙ omega arith
+
 pub getD-ordered : (o : ByteOrder) (xs : List ℕ) (j : ℕ) → j < length xs → getD (ordered o xs) j 0 ≡ getD xs (turned o (length xs) j) 0
 unfolding ordered turned
 getD-ordered Keep xs j l = refl
 getD-ordered ReorderPairs xs j l =
-    ⊎-elim (λ (p : j % 2 ≡ 1). rw (eq-eqb (j % 2) 1 p) (swapped-odd xs j p l))
+    ⊎-elim
+    (λ (p : j % 2 ≡ 1).
+    rw (partner-odd j p, lt-ltb (j - 1) (length xs) (omega arith)) (swapped-odd xs j p l))
     (λ (p : j % 2 ≡ 1 → ⊥).
-    rw (ne-eqb (j % 2) 1 p)
+    rw (partner-even j p)
     (⊎-elim (λ (h : j + 1 < length xs). rw (lt-ltb (j + 1) (length xs) h) (swapped-even xs j p h))
     (λ (h : length xs ≤ j + 1). rw (le-ltb (j + 1) (length xs) h) (swapped-last xs j p (omega arith)))
     (below (j + 1) (length xs))))

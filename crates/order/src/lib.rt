@@ -14,10 +14,9 @@ pub fn ordered_byte(data: &[u8], byte_order: ByteOrder, j: usize) -> u8
     match byte_order {
         ByteOrder::Keep => data[j],
         ByteOrder::ReorderPairs => {
-            if j % 2 == 1 {
-                data[j - 1]
-            } else if j + 1 < data.len() {
-                data[j + 1]
+            let partner = j ^ 1;
+            if partner < data.len() {
+                data[partner]
             } else {
                 data[j]
             }
