@@ -41,77 +41,57 @@ pub fn expected(case: &Case, met: &mut Met) -> Answer {
         Ok(field) => field,
         Err(number) => return Answer::refused(number, call),
     };
-    match coded_type(&field) {
-        Ok(coded) => answered(&field, &coded, call, met),
-        Err(refusal) => refused(refusal, call),
-    }
-}
-
-fn refused(refusal: Refusal, call: &Call) -> Answer {
-    if refusal.number == 30 {
-        Answer::short(refusal.expected, refusal.actual, call)
-    } else {
-        Answer::refused(refusal.number, call)
+    match coded_type(&field).and_then(|coded| answered(&field, &coded, call, met)) {
+        Ok(answer) => answer,
+        Err(Refusal { number: 30, expected, actual }) => Answer::short(expected, actual, call),
+        Err(Refusal { number, .. }) => Answer::refused(number, call),
     }
 }
 
 /// What a call on a legal coded type answers.
-fn answered(field: &Field, coded: &DiagCodedType, call: &Call, met: &mut Met) -> Answer {
-    match call {
-        Call::Decode { payload, byte_pos, bit_pos, output } => match coded.decode(payload, *byte_pos, *bit_pos) {
-            Ok((bytes, _)) if bytes.len() > output.len() => {
+fn answered(field: &Field, coded: &DiagCodedType, call: &Call, met: &mut Met) -> Result<Answer, Refusal> {
+    Ok(match call {
+        Call::Decode { payload, byte_pos, bit_pos, output } => {
+            let (mut bytes, bit_count) = coded.decode(payload, *byte_pos, *bit_pos)?;
+            if bytes.len() > output.len() {
                 met.room += 1;
-                Answer::refused(41, call)
+                return Ok(Answer::refused(41, call));
             }
-            Ok((mut bytes, bit_count)) => {
-                let report = [bit_count, bytes.len(), 0, 0];
-                bytes.extend(&output[bytes.len()..]);
-                Answer { report, bytes, ..Answer::default() }
-            }
-            Err(error) => refused(error.into(), call),
-        },
+            let report = [bit_count, bytes.len(), 0, 0];
+            bytes.extend(&output[bytes.len()..]);
+            Answer { report, bytes, ..Answer::default() }
+        }
         Call::Encode { input, payload, used, byte_pos, bit_pos } => {
-            match written(field, coded, input, &payload[..*used], *byte_pos, *bit_pos, met) {
-                Ok(Written::Past(_)) => {
-                    met.room += 1;
-                    Answer::refused(40, call)
-                }
-                Ok(Written::Bytes(bytes)) if bytes.len() > payload.len() => {
-                    met.room += 1;
-                    Answer::refused(40, call)
-                }
-                Ok(Written::Bytes(mut bytes)) => {
+            match written(field, coded, input, &payload[..*used], *byte_pos, *bit_pos, met)? {
+                Written::Bytes(mut bytes) if bytes.len() <= payload.len() => {
                     let used = bytes.len();
                     bytes.extend(&payload[used..]);
                     Answer { bytes, used, ..Answer::default() }
                 }
-                Err(refusal) => refused(refusal, call),
+                _ => {
+                    met.room += 1;
+                    Answer::refused(40, call)
+                }
             }
         }
         Call::Clear { payload, used, byte_pos, bit_pos } => {
-            let Some((field, zeros)) = clearing(field) else { return Answer::refused(39, call) };
-            let coded = coded_type(&field).unwrap_or_else(|refusal| panic!("refused for its mask: {refusal:?}"));
-            match written(&field, &coded, &zeros, &payload[..*used], *byte_pos, *bit_pos, met) {
-                Ok(Written::Past(end)) => Answer::short(end, *used, call),
-                Ok(Written::Bytes(bytes)) if bytes.len() > *used => Answer::short(bytes.len(), *used, call),
-                Ok(Written::Bytes(mut bytes)) => {
+            let Some((field, zeros)) = clearing(field) else { return Ok(Answer::refused(39, call)) };
+            match written(&field, &coded_type(&field)?, &zeros, &payload[..*used], *byte_pos, *bit_pos, met)? {
+                Written::Bytes(mut bytes) if bytes.len() <= *used => {
                     bytes.extend(&payload[*used..]);
                     Answer { bytes, ..Answer::default() }
                 }
-                Err(refusal) => refused(refusal, call),
+                Written::Bytes(bytes) => Answer::short(bytes.len(), *used, call),
+                Written::Past(end) => Answer::short(end, *used, call),
             }
         }
         Call::Read { payload, byte_pos, byte_count } => {
-            match coded.decode_with_runtime_byte_length(payload, *byte_pos, *byte_count) {
-                Ok((bytes, bit_count)) => {
-                    let place = if bytes.is_empty() { 0 } else { *byte_pos };
-                    Answer { report: [bit_count, bytes.len(), 0, 0], bytes, places: [place, 0, 0], ..Answer::default() }
-                }
-                Err(error) => refused(error.into(), call),
-            }
+            let (bytes, bit_count) = coded.decode_with_runtime_byte_length(payload, *byte_pos, *byte_count)?;
+            let place = if bytes.is_empty() { 0 } else { *byte_pos };
+            Answer { report: [bit_count, bytes.len(), 0, 0], bytes, places: [place, 0, 0], ..Answer::default() }
         }
         Call::Fetch { .. } => unreachable!("a fetch has no coded type"),
-    }
+    })
 }
 
 /// What the original wrote: the payload, or just where it would end, too far to be made.
@@ -120,9 +100,7 @@ enum Written {
     Past(usize),
 }
 
-/// The original's encode. Where the payload would become too long it is called on a position, and a length, that are near:
-/// no refusal of encode looks at the byte position, 26 is given from bit 8 on, and such a length is above 64 and above that
-/// of any mask, so that of its refusals only 25 is left to look closer.
+/// The original's encode, where the payload does not become too long.
 fn written(
     field: &Field,
     coded: &DiagCodedType,
@@ -139,35 +117,32 @@ fn written(
     };
     let end = byte_pos.saturating_add(bit_pos.saturating_add(source).div_ceil(8));
     let nothing_to_write = matches!(field.variant, Variant::Param(_)) && input.is_empty();
-    if end <= NEAR || nothing_to_write {
-        let mut payload = before.to_vec();
-        let outcome = coded.encode(input.to_vec(), &mut payload, byte_pos, bit_pos);
-        return match outcome {
-            Ok(()) => Ok(Written::Bytes(payload)),
-            Err(error) => {
-                let refusal = Refusal::from(error);
-                let grown = payload.len() > before.len();
-                met.grown += u64::from(grown);
-                let only_grown = payload.starts_with(before) && payload[before.len()..].iter().all(|byte| *byte == 0);
-                // no refusal but 26 may have grown it, and none may have changed what was there
-                if only_grown && (!grown || refusal.number == 26) {
-                    Err(refusal)
-                } else {
-                    Err(Refusal { number: 98, ..refusal })
-                }
-            }
-        };
+    if end > NEAR && !nothing_to_write {
+        met.far += 1;
+        return refused_nearer(field, input, bit_pos).map(|()| Written::Past(end));
     }
-    met.far += 1;
+    let mut payload = before.to_vec();
+    let Err(error) = coded.encode(input.to_vec(), &mut payload, byte_pos, bit_pos) else { return Ok(Written::Bytes(payload)) };
+    let refusal = Refusal::from(error);
+    let grown = payload.len() > before.len();
+    met.grown += u64::from(grown);
+    // no refusal but 26 may have grown it, and none may have changed what was there
+    let only_grown = payload.starts_with(before) && payload[before.len()..].iter().all(|byte| *byte == 0);
+    let as_known = only_grown && (!grown || refusal.number == 26);
+    Err(if as_known { refusal } else { Refusal { number: 98, ..refusal } })
+}
+
+/// What the original refuses of an encode on a position, and a length, that are nearer: no refusal of encode looks at the byte
+/// position, 26 is given from bit 8 on, and a length that takes more than `NEAR` is above 64 and above that of any mask, so
+/// that of its refusals only 25 looks closer.
+fn refused_nearer(field: &Field, input: &[u8], bit_pos: usize) -> Result<(), Refusal> {
     let mut field = field.clone();
     if let Variant::Standard { bits, mask, .. } = &mut field.variant
         && *bits as usize > 8 * NEAR
     {
         (*bits, *mask) = (128 + *bits % 16, None);
     }
-    let coded = coded_type(&field)?;
-    coded.encode(input.to_vec(), &mut Vec::new(), 0, bit_pos.min(8))?;
-    Ok(Written::Past(end))
+    Ok(coded_type(&field)?.encode(input.to_vec(), &mut Vec::new(), 0, bit_pos.min(8))?)
 }
 
 /// The field and the input by which the original's encode clears: zeros under the field's mask, all ones if it has none.
