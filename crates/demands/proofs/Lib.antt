@@ -4,3 +4,8 @@ pub mod Bench
 pub mod Stored
 pub mod Worked
 pub mod Unique
+pub mod Calls
+pub mod Owners
+pub mod Building
+pub mod ReadBack
+pub mod Changed

@@ -1,0 +1,122 @@
+-- What is built of a list: every call gives 0, and each bit is what its owner writes there. Assumes nothing.
+use mathlib.Core.Path.{_≡_, refl, sym, ap, _∙_}
+use mathlib.Core.Bool.{Bool, true, false, cond, _&&_}
+use mathlib.Core.List.{List, [], _∷_}
+use Prim.Native.Nat.{ℕ, _+_, _*_, _≤_, _<_}
+use native.Mathlib.Omega.{arith}
+use lib.ListN.{length}
+use lib.Dec.{eqb}
+use borrow.Author.Tests.{eq-eqb}
+use Rattle.bits.specs.Bits.{bitAt}
+use Rattle.bits.proofs.Bytes.{Bytes}
+use Rattle.masks.specs.Mask.{Mask}
+use Rattle.pack.specs.Source.{counted}
+use Rattle.payload.specs.Answers.{Payload, Encoded, payloadOf}
+use Rattle.ownership.specs.Ownership.{writtenIn, imprint, landed}
+use Rattle.ownership.proofs.Laid.{Inside}
+use Rattle.ownership.proofs.Writes.{landed-zero, imprint-none, length-writtenIn, bytes-writtenIn, write-law}
+use Rattle.ownership.proofs.Sources.{bits-under, standard-under}
+use Rattle.ownership.proofs.Permutations.{total}
+use Rattle.demands.specs.Changing.{Placed, Entry, with, write, build, keeps, allKeep, accepted, own, cutOf}
+use Rattle.demands.proofs.Calls.{Taken, accepted-taken, bitsOf, write-done}
+use Rattle.demands.proofs.Owners.{refusing, refusing-cons, owners}
+
+-- ---- one write, of a field that is accepted
+
+-- the bit that a value has at k
+abbrev pub landsAt : ℕ → Entry → ℕ → ℕ
+landsAt n e k = bitAt (imprint (cutOf (e .field)) (bitsOf (e .field) (e .value)) n) k
+
+module _ (n : ℕ) (f : Placed) (v : List ℕ) (t : Taken n f) where
+  pub lands-none : (k : ℕ) → k < 8 * n → own n f k ≡ false → landsAt n (with f v) k ≡ 0
+  lands-none k l e =
+      imprint-none (cutOf f) (bitsOf f v) (bits-under (counted (f .mask)) (f .type) (f .len) v) (standard-under (counted (f .mask)) (f .type) (f .len) v) n (t .inside) k l e
+
+  module _ (xs : List ℕ) (long : length xs ≡ n) where
+    abbrev pub next : List ℕ
+    next = writtenIn (cutOf f) (bitsOf f v) xs
+
+    inside-xs : Inside (cutOf f) (length xs)
+    inside-xs = rw long (t .inside)
+
+    pub length-next : length next ≡ n
+    length-next = length-writtenIn (cutOf f) (bitsOf f v) (bits-under (counted (f .mask)) (f .type) (f .len) v) (standard-under (counted (f .mask)) (f .type) (f .len) v) xs inside-xs ∙ long
+
+    pub bytes-next : Bytes xs → Bytes next
+    bytes-next = bytes-writtenIn (cutOf f) (bitsOf f v) (bits-under (counted (f .mask)) (f .type) (f .len) v) (standard-under (counted (f .mask)) (f .type) (f .len) v) xs inside-xs
+
+    pub bits-next : (k : ℕ) → k < 8 * n → bitAt next k ≡ cond (own n f k) (landed (counted (f .mask)) (bitAt xs k) (landsAt n (with f v) k)) (bitAt xs k)
+    bits-next k l =
+        rw long at
+        (write-law (cutOf f) (bitsOf f v) (bits-under (counted (f .mask)) (f .type) (f .len) v) (standard-under (counted (f .mask)) (f .type) (f .len) v) xs inside-xs k (rw long l))
+
+-- ---- one after the other
+
+unfoldable pub builtOn : List Entry → List ℕ → List ℕ
+builtOn [] xs = xs
+builtOn (e ∷ l) xs = builtOn l (writtenIn (cutOf (e .field)) (bitsOf (e .field) (e .value)) xs)
+
+module _ (n : ℕ) (small : n ≤ 65535) where
+  taken : (e : Entry) → accepted n (e .field) ≡ true → Taken n (e .field)
+  taken e h = accepted-taken n (e .field) small h
+
+  pub build-on : (l : List Entry) (xs : List ℕ) → refusing n l ≡ 0 → length xs ≡ n → build l (payloadOf xs n) ≡ payloadOf (builtOn l xs) n
+  unfolding build builtOn
+  build-on [] xs r long = refl
+  build-on (e ∷ l) xs r long =
+      let h = refusing-cons n e l r in
+      let t = taken e (h .0) in
+      ap (λ (a : Encoded). build l (a .payload)) (write-done n (e .field) small t xs long (e .value))
+      ∙ build-on l (next n (e .field) (e .value) t xs long) (h .1) (length-next n (e .field) (e .value) t xs long)
+
+  pub all-keep : (l : List Entry) (xs : List ℕ) → refusing n l ≡ 0 → length xs ≡ n → allKeep n l (payloadOf xs n) ≡ true
+  unfolding allKeep
+  all-keep [] xs r long = refl
+  all-keep (e ∷ l) xs r long =
+      let h = refusing-cons n e l r in
+      let t = taken e (h .0) in
+      ap (λ (a : Encoded). keeps n a && allKeep n l (a .payload)) (write-done n (e .field) small t xs long (e .value))
+      ∙ rw (eq-eqb n n refl) (all-keep l (next n (e .field) (e .value) t xs long) (h .1) (length-next n (e .field) (e .value) t xs long))
+
+  pub length-builtOn : (l : List Entry) (xs : List ℕ) → refusing n l ≡ 0 → length xs ≡ n → length (builtOn l xs) ≡ n
+  unfolding builtOn
+  length-builtOn [] xs r long = long
+  length-builtOn (e ∷ l) xs r long =
+      let h = refusing-cons n e l r in
+      let t = taken e (h .0) in
+      length-builtOn l (next n (e .field) (e .value) t xs long) (h .1) (length-next n (e .field) (e .value) t xs long)
+
+  pub bytes-builtOn : (l : List Entry) (xs : List ℕ) → refusing n l ≡ 0 → length xs ≡ n → Bytes xs → Bytes (builtOn l xs)
+  unfolding builtOn
+  bytes-builtOn [] xs r long b = b
+  bytes-builtOn (e ∷ l) xs r long b =
+      let h = refusing-cons n e l r in
+      let t = taken e (h .0) in
+      bytes-builtOn l (next n (e .field) (e .value) t xs long) (h .1) (length-next n (e .field) (e .value) t xs long) (bytes-next n (e .field) (e .value) t xs long b)
+
+  -- what lands at k, of all fields
+  abbrev pub landing : ℕ → List Entry → ℕ
+  landing k l = total (λ (e : Entry). landsAt n e k) l
+
+  -- o: the field owns the bit x; s: what its value has there; m: how many others own it
+  step : (o : Bool) (mask : Mask) (x s m : ℕ) → (o ≡ false → s ≡ 0) → cond o 1 0 + m ≤ 1 → (1 ≤ cond o 1 0 + m → x ≡ 0)
+      → (cond o (landed mask x s) x ≡ x + s) × ((1 ≤ m → cond o (landed mask x s) x ≡ 0) × (m ≤ 1))
+  step true mask x s m none one fresh =
+      let zero : x ≡ 0 = fresh (omega arith) in
+      (rw zero (landed-zero mask s ∙ omega arith), (λ (h : 1 ≤ m). absurd (omega arith), omega arith))
+  step false mask x s m none one fresh = let z = none refl in (omega arith, (λ (h : 1 ≤ m). fresh (omega arith), omega arith))
+
+  pub bits-builtOn : (l : List Entry) (xs : List ℕ) → refusing n l ≡ 0 → length xs ≡ n → (k : ℕ) → k < 8 * n
+      → owners n k l ≤ 1 → (1 ≤ owners n k l → bitAt xs k ≡ 0) → bitAt (builtOn l xs) k ≡ bitAt xs k + landing k l
+  unfolding builtOn
+  bits-builtOn [] xs r long k h one fresh = omega arith
+  bits-builtOn (e ∷ l) xs r long k h one fresh =
+      let a = refusing-cons n e l r in
+      let t = taken e (a .0) in
+      let ys = next n (e .field) (e .value) t xs long in
+      let now = bits-next n (e .field) (e .value) t xs long k h in
+      let s = step (own n (e .field) k) (counted (e .field .mask)) (bitAt xs k) (landsAt n e k) (owners n k l) (lands-none n (e .field) (e .value) t k h) one fresh in
+      let rest : bitAt (builtOn l ys) k ≡ bitAt ys k + landing k l =
+      bits-builtOn l ys (a .1) (length-next n (e .field) (e .value) t xs long) k h (s .1 .1) (λ (g : 1 ≤ owners n k l). now ∙ s .1 .0 g) in
+      let here : bitAt ys k ≡ bitAt xs k + landsAt n e k = now ∙ s .0 in
+      omega (arith, rest, here)

@@ -1,0 +1,205 @@
+-- Demand 3 is proved: what specs/Changing states. Assumes nothing.
+use mathlib.Core.Path.{_≡_, refl, sym, ap, _∙_}
+use mathlib.Core.Logic.{⊎-elim}
+use mathlib.Core.Bool.{Bool, true, false, cond}
+use mathlib.Core.List.{List, [], _∷_, _++_, List·Permᴰ}
+use Prim.Native.Nat.{ℕ, _+_, _*_, _/_, _≤_, _<_}
+use native.Mathlib.Omega.{arith}
+use lib.ListN.{length, getD, replicate, length-replicate, getD-replicate, List·getD-eq-default}
+use borrow.Author.Tests.{eq-eqb}
+use Rattle.kinds.proofs.Compare.{below}
+use Rattle.bits.specs.Bits.{bitAt}
+use Rattle.bits.proofs.Bytes.{Bytes, bitAt-out, ext-bits}
+use Rattle.masks.specs.Mask.{Mask}
+use Rattle.pack.specs.Source.{counted}
+use Rattle.payload.specs.Answers.{Payload, Encoded, done, payloadOf}
+use Rattle.ownership.specs.Ownership.{writtenIn, clearedIn, landed}
+use Rattle.ownership.proofs.Laid.{Inside, bitAt-zeros}
+use Rattle.ownership.proofs.Writes.{landed-zero}
+use Rattle.ownership.proofs.Clears.{length-clearedIn, bytes-clearedIn, clear-law}
+use Rattle.ownership.proofs.Permutations.{total, total-append, total-permuted}
+use Rattle.demands.specs.Changing.{Placed, Entry, with, write, clear, readBack, zeros, build, keeps, allKeep, accepted, own, cutOf, disjoint, among, change, Premises, Changed, Demand3}
+use Rattle.demands.proofs.Calls.{Taken, accepted-taken, bitsOf, write-done, clear-done}
+use Rattle.demands.proofs.Owners.{refusing, refusing-cons, none-refusing, owners, owners-cons, one-owner}
+use Rattle.demands.proofs.ReadBack.{reads-back}
+use Rattle.demands.proofs.Building.{landsAt, lands-none, next, length-next, bytes-next, bits-next, builtOn, build-on, all-keep, length-builtOn, bytes-builtOn, landing, bits-builtOn}
+
+-- a list around one element
+around : (w : Entry → ℕ) (before after : List Entry) (e : Entry) → total w (before ++ (e ∷ after)) ≡ total w before + (w e + total w after)
+around w before after e = total-append w before (e ∷ after)
+
+-- what nobody owns, nothing lands at
+lands-nowhere : (n : ℕ) (small : n ≤ 65535) (l : List Entry) → refusing n l ≡ 0 → (k : ℕ) → k < 8 * n → owners n k l ≡ 0 → landing n small k l ≡ 0
+lands-nowhere n small [] r k h e = refl
+lands-nowhere n small (x ∷ l) r k h e =
+    let a = refusing-cons n x l r in
+    let t = accepted-taken n (x .field) small (a .0) in
+    let o = owners-cons n k x l e in
+    let first = lands-none n (x .field) (x .value) t k h (o .0) in
+    let rest = lands-nowhere n small l (a .1) k h (o .1) in
+    omega (arith, first, rest)
+
+module _ (n : ℕ) (before after : List Entry) (f : Placed) (v v′ : List ℕ) (l′ l″ : List Entry) (p : Premises n before after f v v′ l′ l″) where
+  abbrev olds : List Entry
+  olds = among before after f v
+
+  abbrev news : List Entry
+  news = among before after f v′
+
+  -- a count that goes by fields alone is the same for both lists
+  same-fields : (w : Placed → ℕ) → total (λ (e : Entry). w (e .field)) news ≡ total (λ (e : Entry). w (e .field)) olds
+  same-fields w = around (λ (e : Entry). w (e .field)) before after (with f v′) ∙ sym (around (λ (e : Entry). w (e .field)) before after (with f v))
+
+  none-old : refusing n olds ≡ 0
+  none-old = none-refusing n olds (p .taken)
+
+  none-new : refusing n news ≡ 0
+  none-new = same-fields (λ g. cond (accepted n g) 0 1) ∙ none-old
+
+  none′ : refusing n l′ ≡ 0
+  none′ = sym (total-permuted (λ (e : Entry). cond (accepted n (e .field)) 0 1) (p .one-order)) ∙ none-old
+
+  none″ : refusing n l″ ≡ 0
+  none″ = sym (total-permuted (λ (e : Entry). cond (accepted n (e .field)) 0 1) (p .other-order)) ∙ none-new
+
+  -- n zero bytes
+  long-zero : length (replicate {A = ℕ} n 0) ≡ n
+  long-zero = length-replicate n 0
+
+  bytes-zero : Bytes (replicate n 0)
+  bytes-zero j =
+      ⊎-elim (λ (l : j < n). rw (getD-replicate {A = ℕ} n j 0 0 l) (omega arith))
+      (λ (l : n ≤ j). rw (List·getD-eq-default {A = ℕ} (replicate n 0) 0 {n = j} (rw long-zero l)) (omega arith)) (below j n)
+
+  -- a list in any order that has the same fields: at each bit what lands there
+  bits-of : (l : List Entry) → refusing n l ≡ 0 → (k : ℕ) → k < 8 * n → owners n k l ≤ 1 → bitAt (builtOn l (replicate n 0)) k ≡ landing n (p .small) k l
+  bits-of l r k h one =
+      let zero = bitAt-zeros n k h in
+      let whole = bits-builtOn n (p .small) l (replicate n 0) r long-zero k h one (λ (g : 1 ≤ owners n k l). zero) in
+      omega (arith, zero, whole)
+
+  -- ---- built, cleared and written
+
+  t : Taken n f
+  t =
+      let middle : cond (accepted n f) 0 1 + refusing n after ≡ 0 = let whole = around (λ (e : Entry). cond (accepted n (e .field)) 0 1) before after (with f v) in omega (arith, whole, none-old) in
+      accepted-taken n f (p .small) (refusing-cons n (with f v) after middle .0)
+
+  abbrev B : List ℕ
+  B = builtOn l′ (replicate n 0)
+
+  long-B : length B ≡ n
+  long-B = length-builtOn n (p .small) l′ (replicate n 0) none′ long-zero
+
+  is-built : build l′ (zeros n) ≡ payloadOf B n
+  is-built = build-on n (p .small) l′ (replicate n 0) none′ long-zero
+
+  inside-B : Inside (cutOf f) (length B)
+  inside-B = rw long-B (t .inside)
+
+  abbrev D : List ℕ
+  D = clearedIn (cutOf f) B
+
+  long-D : length D ≡ n
+  long-D = length-clearedIn (cutOf f) B inside-B ∙ long-B
+
+  is-cleared : clear f (build l′ (zeros n)) ≡ done (payloadOf D n)
+  is-cleared = ap (clear f) is-built ∙ clear-done n f (p .small) t B long-B
+
+  abbrev C : List ℕ
+  C = next n f v′ t D long-D
+
+  is-changed : change f v′ (build l′ (zeros n)) ≡ done (payloadOf C n)
+  is-changed = ap (λ (e : Encoded). write (with f v′) (e .payload)) is-cleared ∙ write-done n f (p .small) t D long-D v′
+
+  -- ---- (b)
+
+  owners-old : (k : ℕ) → k < 8 * n → owners n k olds ≤ 1
+  owners-old k h = one-owner n olds k h (p .owned-once)
+
+  owners-new : (k : ℕ) → owners n k news ≡ owners n k olds
+  owners-new k = same-fields (λ g. cond (own n g k) 1 0)
+
+  owners′ : (k : ℕ) → k < 8 * n → owners n k l′ ≤ 1
+  owners′ k h = rw (sym (total-permuted (λ (e : Entry). cond (own n (e .field) k) 1 0) (p .one-order))) (owners-old k h)
+
+  owners″ : (k : ℕ) → k < 8 * n → owners n k l″ ≤ 1
+  owners″ k h = rw (sym (total-permuted (λ (e : Entry). cond (own n (e .field) k) 1 0) (p .other-order)), owners-new k) (owners-old k h)
+
+  bits-B : (k : ℕ) → k < 8 * n → bitAt B k ≡ landing n (p .small) k olds
+  bits-B k h = bits-of l′ none′ k h (owners′ k h) ∙ sym (total-permuted (λ (e : Entry). landsAt n e k) (p .one-order))
+
+  bits-anew : (k : ℕ) → k < 8 * n → bitAt (builtOn l″ (replicate n 0)) k ≡ landing n (p .small) k news
+  bits-anew k h = bits-of l″ none″ k h (owners″ k h) ∙ sym (total-permuted (λ (e : Entry). landsAt n e k) (p .other-order))
+
+  -- a clear and a write: an owned bit is the new value's, and the others stay
+  over-clear : (o : Bool) (mask : Mask) (x s : ℕ) → cond o (landed mask (cond o 0 x) s) (cond o 0 x) ≡ cond o s x
+  over-clear true mask x s = landed-zero mask s
+  over-clear false mask x s = refl
+
+  bits-C : (k : ℕ) → k < 8 * n → bitAt C k ≡ cond (own n f k) (landsAt n (with f v′) k) (bitAt B k)
+  bits-C k h =
+      let was : bitAt D k ≡ cond (own n f k) 0 (bitAt B k) = rw long-B at (clear-law (cutOf f) B inside-B k (rw long-B h)) in
+      bits-next n f v′ t D long-D k h ∙ rw was (over-clear (own n f k) (counted (f .mask)) (bitAt B k) (landsAt n (with f v′) k))
+
+  -- the fields before and after own none of the field's bits, so nothing of theirs lands there
+  around-none : (k : ℕ) → k < 8 * n → own n f k ≡ true → (landing n (p .small) k before ≡ 0) × (landing n (p .small) k after ≡ 0)
+  around-none k h o =
+      let refused = around (λ (e : Entry). cond (accepted n (e .field)) 0 1) before after (with f v) in
+      let owned : owners n k olds ≡ owners n k before + (1 + owners n k after) = rw o at (around (λ (e : Entry). cond (own n (e .field) k) 1 0) before after (with f v)) in
+      let one = owners-old k h in (
+        lands-nowhere n (p .small) before (omega (arith, refused, none-old)) k h (omega (arith, owned, one)),
+        lands-nowhere n (p .small) after (omega (arith, refused, none-old)) k h (omega (arith, owned, one)),
+      )
+
+  -- o: the field owns the bit; s and s′: what its values have there; a and b: what lands there of the fields before and after
+  replaced : (o : Bool) (a b s s′ : ℕ) → (o ≡ true → (a ≡ 0) × (b ≡ 0)) → (o ≡ false → s ≡ 0) → (o ≡ false → s′ ≡ 0) → cond o s′ (a + (s + b)) ≡ a + (s′ + b)
+  replaced true a b s s′ e e₁ e₂ = let none = e refl in omega (arith, none .0, none .1)
+  replaced false a b s s′ e e₁ e₂ = omega (arith, e₁ refl, e₂ refl)
+
+  same-bits : (k : ℕ) → k < 8 * n → bitAt C k ≡ bitAt (builtOn l″ (replicate n 0)) k
+  same-bits k h =
+      let w : Entry → ℕ = λ e. landsAt n e k in
+      bits-C k h ∙ rw (bits-B k h ∙ around w before after (with f v), bits-anew k h ∙ around w before after (with f v′))
+      (replaced (own n f k) (landing n (p .small) k before) (landing n (p .small) k after) (landsAt n (with f v) k) (landsAt n (with f v′) k) (around-none k h)
+      (lands-none n f v t k h) (lands-none n f v′ t k h))
+
+  long-C : length C ≡ n
+  long-C = length-next n f v′ t D long-D
+
+  same-bytes : C ≡ builtOn l″ (replicate n 0)
+  same-bytes =
+      ext-bits C (builtOn l″ (replicate n 0)) (bytes-next n f v′ t D long-D (bytes-clearedIn (cutOf f) B inside-B (bytes-builtOn n (p .small) l′ (replicate n 0) none′ long-zero bytes-zero)))
+      (bytes-builtOn n (p .small) l″ (replicate n 0) none″ long-zero bytes-zero)
+      (long-C ∙ sym (length-builtOn n (p .small) l″ (replicate n 0) none″ long-zero))
+      (λ k h. same-bits k (rw long-C at h))
+
+  -- ---- (c)
+
+  elsewhere : (k : ℕ) → own n f k ≡ false → bitAt B k ≡ bitAt C k
+  elsewhere k o =
+      ⊎-elim (λ (h : k < 8 * n). sym (bits-C k h ∙ rw o))
+      (λ (h : 8 * n ≤ k). bitAt-out B k (rw long-B (omega arith)) ∙ sym (bitAt-out C k (rw long-C (omega arith)))) (below k (8 * n))
+
+pub demand-3 : Demand3
+demand-3 n before after f v v′ l′ l″ p =
+    let changes = is-changed n before after f v v′ l′ l″ p in
+    let zero = long-zero n before after f v v′ l′ l″ p in
+    let one = none′ n before after f v v′ l′ l″ p in
+    let other = none″ n before after f v v′ l′ l″ p in
+    record {
+      a-built = all-keep n (p .small) l′ (replicate n 0) one zero;
+      a-cleared = ap (keeps n) (is-cleared n before after f v v′ l′ l″ p) ∙ eq-eqb n n refl;
+      a-changed = ap (keeps n) changes ∙ eq-eqb n n refl;
+      a-anew = all-keep n (p .small) l″ (replicate n 0) other zero;
+      b =
+          ap (λ (e : Encoded). e .payload) changes ∙ ap (λ (ys : List ℕ). payloadOf ys n) (same-bytes n before after f v v′ l′ l″ p)
+          ∙ sym (build-on n (p .small) l″ (replicate n 0) other zero);
+      c = λ k o.
+          ap (λ (q : Payload). bitAt (q .bytes) k) (is-built n before after f v v′ l′ l″ p) ∙ elsewhere n before after f v v′ l′ l″ p k o
+          ∙ sym (ap (λ (e : Encoded). bitAt (e .payload .bytes) k) changes);
+      d = λ whole inside bare exact output room.
+          ap (λ (e : Encoded). readBack f (e .payload) output) changes
+          ∙ reads-back n (f .type) (f .order) (f .len) (f .at) (f .pos) (p .small) v′ (B n before after f v v′ l′ l″ p) (long-B n before after f v v′ l′ l″ p) (f .mask)
+          (t n before after f v v′ l′ l″ p) whole inside bare exact (long-C n before after f v v′ l′ l″ p) output room;
+    }

@@ -1,0 +1,2 @@
+-- Demand 3, in full.
+pub mod Changing

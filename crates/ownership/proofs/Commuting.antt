@@ -1,0 +1,67 @@
+-- Two writes that own no bit in common go in either order. Assumes nothing.
+use mathlib.Core.Path.{_≡_, refl, sym, ap, _∙_}
+use mathlib.Core.Bool.{Bool, true, false, cond}
+use mathlib.Core.List.{List}
+use Prim.Native.Nat.{ℕ, _*_, _<_}
+use lib.ListN.{length}
+use Rattle.bits.specs.Bits.{bitAt}
+use Rattle.bits.proofs.Numbers.{Bits}
+use Rattle.bits.proofs.Bytes.{Bytes, ext-bits}
+use Rattle.masks.specs.Mask.{Mask}
+use Rattle.ownership.specs.Ownership.{Cut, writtenIn, owns, imprint, landed}
+use Rattle.ownership.proofs.Laid.{Inside}
+use Rattle.ownership.proofs.Writes.{Under, length-writtenIn, bytes-writtenIn, write-law}
+
+-- no bit of n bytes is owned by both
+abbrev pub Apart : Cut → Cut → ℕ → Type 0
+Apart c c′ n = (k : ℕ) → k < 8 * n → owns c n k ≡ true → owns c′ n k ≡ true → ⊥
+
+-- of a bit that is owned by at most one of two writes
+in-either-order : (o o′ : Bool) (m m′ : Mask) (s s′ x : ℕ) → (o ≡ true → o′ ≡ true → ⊥)
+    → cond o (landed m (cond o′ (landed m′ x s′) x) s) (cond o′ (landed m′ x s′) x) ≡ cond o′ (landed m′ (cond o (landed m x s) x) s′) (cond o (landed m x s) x)
+in-either-order true true m m′ s s′ x h = absurd (h refl refl)
+in-either-order true false m m′ s s′ x h = refl
+in-either-order false true m m′ s s′ x h = refl
+in-either-order false false m m′ s s′ x h = refl
+
+-- a cut-out inside n bytes, and bits that may be written there
+pub record Writable (c : Cut) (bits : ℕ → ℕ) (n : ℕ) : Type 0 where
+  pub inside : Inside c n
+  pub zero-one : Bits bits
+  pub masked : Under c bits
+
+module _ (c c′ : Cut) (bits bits′ : ℕ → ℕ) (xs : List ℕ) (w : Writable c bits (length xs)) (w′ : Writable c′ bits′ (length xs)) where
+  abbrev ys : List ℕ
+  ys = writtenIn c′ bits′ xs
+
+  length-ys : length ys ≡ length xs
+  length-ys = length-writtenIn c′ bits′ (w′ .zero-one) (w′ .masked) xs (w′ .inside)
+
+  inside-ys : Inside c (length ys)
+  inside-ys = rw length-ys (w .inside)
+
+  length-both : length (writtenIn c bits ys) ≡ length xs
+  length-both = length-writtenIn c bits (w .zero-one) (w .masked) ys inside-ys ∙ length-ys
+
+  bytes-both : Bytes xs → Bytes (writtenIn c bits ys)
+  bytes-both h = bytes-writtenIn c bits (w .zero-one) (w .masked) ys inside-ys (bytes-writtenIn c′ bits′ (w′ .zero-one) (w′ .masked) xs (w′ .inside) h)
+
+  bits-both : (k : ℕ) → k < 8 * length xs
+      → bitAt (writtenIn c bits ys) k
+      ≡ cond (owns c (length xs) k)
+      (landed (c .mask) (cond (owns c′ (length xs) k) (landed (c′ .mask) (bitAt xs k) (bitAt (imprint c′ bits′ (length xs)) k)) (bitAt xs k)) (bitAt (imprint c bits (length xs)) k))
+      (cond (owns c′ (length xs) k) (landed (c′ .mask) (bitAt xs k) (bitAt (imprint c′ bits′ (length xs)) k)) (bitAt xs k))
+  bits-both k l =
+      rw (sym (write-law c′ bits′ (w′ .zero-one) (w′ .masked) xs (w′ .inside) k l))
+      (write-law c bits (w .zero-one) (w .masked) ys inside-ys k (rw length-ys l) ∙ rw length-ys)
+
+pub writes-commute : (c c′ : Cut) (bits bits′ : ℕ → ℕ) (xs : List ℕ) → Bytes xs → Writable c bits (length xs) → Writable c′ bits′ (length xs) → Apart c c′ (length xs)
+    → writtenIn c bits (writtenIn c′ bits′ xs) ≡ writtenIn c′ bits′ (writtenIn c bits xs)
+writes-commute c c′ bits bits′ xs h w w′ apart =
+    let one = length-both c c′ bits bits′ xs w w′ in
+    let other = length-both c′ c bits′ bits xs w′ w in
+    ext-bits _ _ (bytes-both c c′ bits bits′ xs w w′ h) (bytes-both c′ c bits′ bits xs w′ w h) (one ∙ sym other) (λ k l.
+    let below : k < 8 * length xs = rw one at l in
+    bits-both c c′ bits bits′ xs w w′ k below
+    ∙ in-either-order (owns c (length xs) k) (owns c′ (length xs) k) (c .mask) (c′ .mask) (bitAt (imprint c bits (length xs)) k) (bitAt (imprint c′ bits′ (length xs)) k) (bitAt xs k) (apart k below)
+    ∙ sym (bits-both c′ c bits′ bits xs w′ w k below))

@@ -1,0 +1,9 @@
+pub mod Ordering
+pub mod Places
+pub mod Laid
+pub mod Writes
+pub mod Clears
+pub mod Sources
+pub mod Commuting
+pub mod ReadBack
+pub mod Permutations
