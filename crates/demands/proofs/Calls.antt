@@ -12,7 +12,7 @@ use Rattle.kinds.specs.Types.{isNumeric, isByteType}
 use Rattle.kinds.specs.Refusals.{bitPositionRefusal}
 use Rattle.kinds.proofs.Compare.{same}
 use Rattle.kinds.proofs.Rules.{rule-zero}
-use Rattle.pack.specs.Source.{counted, sizeUnder, standardSource, standardBitsUnder}
+use Rattle.pack.specs.Source.{Source, counted, sizeUnder, standardSource, standardBitsUnder}
 use Rattle.payload.specs.Answers.{Payload, Encoded, done, after, payloadOf}
 use Rattle.payload.specs.Writing.{inCutOut, grown, cutBytes, cutEnd, writeRefusal, written, writing, clearing}
 use Rattle.payload.proofs.Ways.{after-none, write-all}
@@ -93,3 +93,17 @@ module _ (n : ℕ) (f : Placed) (small : n ≤ 65535) (t : Taken n f) (xs : List
   clear-done =
       rw (t .numeric)
       (after-none _ _ _ (t .allowed) ∙ rw (le-ltb 7 (f .pos) (t .seven), le-ltb n (cutEnd (f .at) (f .pos) size) ends))
+
+-- ---- the value does not matter
+
+after-keeps : (n m : ℕ) (p : Payload) (e e′ : Encoded) → keeps n e ≡ keeps n e′ → keeps n (after m p e) ≡ keeps n (after m p e′)
+after-keeps n m p e e′ h = ⊎-elim (λ (z : m ≡ 0). rw z h) (λ (z : m ≡ 0 → ⊥). rw (ne-eqb m 0 z)) (same m 0)
+
+-- a field that is accepted with one value is accepted with every other
+pub value-free : (n : ℕ) (f : Placed) (v v′ : List ℕ) (p : Payload) → keeps n (write (with f v) p) ≡ keeps n (write (with f v′) p)
+unfolding writing
+value-free n f v v′ p =
+    let source : List ℕ → Source = standardSource (f .type) (f .len) (counted (f .mask)) in
+    let put-in : List ℕ → Encoded = λ w. writing (f .order) (source w) p (f .at) (f .pos) in
+    after-keeps n (bitPositionRefusal (f .type) (f .pos)) p _ _ (after-keeps n (standardRefusal (f .type) (f .len) (f .mask)) p (put-in v) (put-in v′)
+    (after-keeps n (writeRefusal (sizeUnder (counted (f .mask)) (f .len)) p (f .at) (f .pos)) p (done (written (f .order) (source v) p (f .at) (f .pos))) (done (written (f .order) (source v′) p (f .at) (f .pos))) refl))

@@ -9,3 +9,5 @@ pub mod Owners
 pub mod Building
 pub mod ReadBack
 pub mod Changed
+pub mod Coded
+pub mod Lists

@@ -9,10 +9,10 @@ use Rattle.bits.specs.Bits.{bitAt}
 use Rattle.bits.proofs.Bytes.{Bytes}
 use Rattle.payload.specs.Writing.{cutBytes}
 use Rattle.cutout.specs.CutOut.{cleared}
-use Rattle.ownership.specs.Ownership.{Cut, clearedIn, footprint, owns, afterClear}
+use Rattle.ownership.specs.Ownership.{Cut, clearedIn, ownedAt, footprint, owns, afterClear}
 use Rattle.ownership.proofs.Places.{length-inCutOut, bytes-inCutOut}
 use Rattle.ownership.proofs.Laid.{Inside, holds, standsAt, bitAt-inCut}
-use Rattle.ownership.proofs.Writes.{ownedAt, clearsTo, pointwise-cleared, bitAt-footprint}
+use Rattle.ownership.proofs.Writes.{clearsTo, pointwise-cleared, bitAt-footprint}
 
 at-place : (t : Bool) (m x : ℕ) → cond t (cond (eqb m 1) 0 x) x ≡ cond (eqb (cond t m 0) 1) 0 x
 at-place true m x = refl

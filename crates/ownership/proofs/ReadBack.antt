@@ -16,10 +16,10 @@ use Rattle.bits.proofs.Numbers.{Bits}
 use Rattle.bits.proofs.Moves.{first-in, raised-in, within-in}
 use Rattle.cutout.specs.CutOut.{ownedBit, cleared, put}
 use Rattle.payload.specs.Writing.{spliced, inCutOut, cutBytes}
-use Rattle.ownership.specs.Ownership.{Cut, sourceFor, writtenIn, clearedIn, landed}
+use Rattle.ownership.specs.Ownership.{Cut, sourceFor, writtenIn, clearedIn, ownedAt, sourceAt}
 use Rattle.ownership.proofs.Places.{Pointwise}
 use Rattle.ownership.proofs.Laid.{Inside}
-use Rattle.ownership.proofs.Writes.{Under, ownedAt, sourceAt, clearsTo, putsTo, landed-zero, pointwise-cleared, pointwise-put}
+use Rattle.ownership.proofs.Writes.{Under, clearsTo, putsTo, landed-zero, pointwise-cleared, pointwise-put}
 use Rattle.ownership.proofs.Clears.{length-clearedIn}
 
 -- the ordered cut-out after a change is the changed one

@@ -18,7 +18,7 @@ use Rattle.masks.specs.Mask.{Mask, noMask, plainMask, condensedMask}
 use Rattle.masks.proofs.Masked.{maskBit-lt}
 use Rattle.payload.specs.Writing.{cutBytes}
 use Rattle.cutout.specs.CutOut.{ownedBit, cleared, readied, put}
-use Rattle.ownership.specs.Ownership.{Cut, sourceFor, writtenIn, footprint, owns, imprint, landed, afterWrite}
+use Rattle.ownership.specs.Ownership.{Cut, sourceFor, writtenIn, ownedAt, footprint, owns, sourceAt, imprint, landed, afterWrite}
 use Rattle.ownership.proofs.Places.{Pointwise, pointwise-packed, pointwise-as, pointwise-then, length-inCutOut, bytes-inCutOut}
 use Rattle.ownership.proofs.Laid.{Inside, holds, standsAt, bitAt-inCut, bitAt-laid}
 
@@ -27,16 +27,8 @@ ownedBit-lt noMask i = omega arith
 ownedBit-lt (plainMask mask) i = maskBit-lt mask i
 ownedBit-lt (condensedMask mask) i = maskBit-lt mask i
 
--- the bit of an ordered cut-out that is owned
-abbrev pub ownedAt : Cut → ℕ → ℕ
-ownedAt c i = cond (within (c .size) (c .pos) i) (ownedBit (c .mask) (i - c .pos)) 0
-
 pub bits-owned : (c : Cut) → Bits (ownedAt c)
 bits-owned c i = bits-cond (within (c .size) (c .pos) i) (ownedBit-lt (c .mask) (i - c .pos)) (omega arith)
-
--- the source's bit at a bit of an ordered cut-out
-abbrev pub sourceAt : Cut → (ℕ → ℕ) → ℕ → ℕ
-sourceAt c bits = raised (c .pos) (first (c .size) bits)
 
 pub bits-source : (c : Cut) (bits : ℕ → ℕ) → Bits bits → Bits (sourceAt c bits)
 bits-source c bits b = bits-raised (c .pos) (first (c .size) bits) (bits-first (c .size) bits b)

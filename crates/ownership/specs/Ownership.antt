@@ -41,17 +41,25 @@ clearedIn c xs = inCut c (cleared (c .mask) (c .size) (c .pos)) xs
 abbrev pub laid : Cut → (ℕ → ℕ) → ℕ → List ℕ
 laid c f n = inCut c (λ ys. packed (length ys) f) (replicate n 0)
 
--- ones where bit pos+i of the ordered cut-out stands, for each bit i of the field that is owned
+-- of the ordered cut-out the field owns bit pos+i for each bit i of its own that is owned
+abbrev pub ownedAt : Cut → ℕ → ℕ
+ownedAt c k = cond (within (c .size) (c .pos) k) (ownedBit (c .mask) (k - c .pos)) 0
+
+-- ones at the bits that are owned
 unfoldable pub footprint : Cut → ℕ → List ℕ
-footprint c n = laid c (λ i. cond (within (c .size) (c .pos) i) (ownedBit (c .mask) (i - c .pos)) 0) n
+footprint c n = laid c (ownedAt c) n
 
 -- the field owns bit k of n bytes
 unfoldable pub owns : Cut → ℕ → ℕ → Bool
 owns c n k = eqb (bitAt (footprint c n) k) 1
 
--- bit i of the source where bit pos+i of the ordered cut-out stands
+-- bit i of the source belongs at bit pos+i of the ordered cut-out
+abbrev pub sourceAt : Cut → (ℕ → ℕ) → ℕ → ℕ
+sourceAt c bits = raised (c .pos) (first (c .size) bits)
+
+-- the source's bits, each at its place
 unfoldable pub imprint : Cut → (ℕ → ℕ) → ℕ → List ℕ
-imprint c bits n = laid c (raised (c .pos) (first (c .size) bits)) n
+imprint c bits n = laid c (sourceAt c bits) n
 
 -- what a write makes of an owned bit, by what was there and the source's bit: without a mask nothing is cleared
 abbrev pub landed : Mask → ℕ → ℕ → ℕ
