@@ -1,0 +1,169 @@
+/* Calls the library by a field: its record, the store and the input are lent from the ends of regions, before a page that
+ * cannot be touched. Where a fault is set, what the library is asked or answers is changed by it.
+ */
+#define _DEFAULT_SOURCE
+#include <stdio.h>
+#include <stdlib.h>
+#include <string.h>
+#include <sys/mman.h>
+
+#include "changing.h"
+
+enum { ROOM = 17 * 4096, PAGE = 4096, RECORD = 16, UINT32 = 2, STANDARD = 3, REFUSED_EVERY = 1000 };
+
+int fault;
+uint64_t calls;
+
+static uint8_t *records, *stores, *inputs, old[SLICE];
+
+uint8_t *region(void)
+{
+    uint8_t *start = mmap(NULL, ROOM + PAGE, PROT_READ | PROT_WRITE, MAP_PRIVATE | MAP_ANONYMOUS, -1, 0);
+    if (start == MAP_FAILED || mprotect(start + ROOM, PAGE, PROT_NONE) != 0) {
+        fprintf(stderr, "changing: no memory\n");
+        exit(1);
+    }
+    return start;
+}
+
+uint8_t *last(uint8_t *start, size_t length)
+{
+    return start + ROOM - length;
+}
+
+void prepare_calls(void)
+{
+    records = region(), stores = region(), inputs = region();
+}
+
+/* All numbers of these records are below 256. */
+static const uint8_t *record(const struct field *f)
+{
+    uint8_t *bytes = last(records, RECORD);
+    memset(bytes, 0, RECORD);
+    bytes[0] = f->type;
+    bytes[1] = (uint8_t)(f->high_low | f->masked << 1 | f->condensed << 2);
+    bytes[2] = STANDARD;
+    bytes[7] = (uint8_t)f->length;
+    bytes[13] = (uint8_t)f->mask_place;
+    bytes[15] = (uint8_t)f->mask_length;
+    return bytes;
+}
+
+static const uint8_t *store(const struct list *l)
+{
+    return memcpy(last(stores, l->store_length), l->store, l->store_length);
+}
+
+static const uint8_t *input(const struct value *v)
+{
+    return memcpy(last(inputs, v->length), v->bytes, v->length);
+}
+
+/* A bit that is not the field's in the byte of its lowest bit, or 0 where all are. */
+static uint8_t bit_beside(const struct field *f, size_t *at)
+{
+    int others;
+    *at = f->byte_pos + (f->high_low ? f->cut - 1 : 0);
+    others = ~own_at(f, *at) & 0xFF;
+    return (uint8_t)(others & -others);
+}
+
+/* The field's bits, all of them and under no mask. */
+static struct field without_mask(const struct field *f)
+{
+    struct field all = *f;
+    all.type = UINT32;
+    all.length = f->bits;
+    all.masked = all.condensed = 0;
+    all.mask_place = all.mask_length = 0;
+    return all;
+}
+
+static void leave_turned(const struct field *f, uint8_t *payload)
+{
+    size_t i, at;
+    for (i = 0; i < f->cut && !f->high_low; i++) {
+        at = f->byte_pos + i;
+        payload[at] = (uint8_t)((payload[at] & f->own[i]) | (old[f->byte_pos + f->cut - 1 - i] & ~f->own[i]));
+    }
+}
+
+static uint32_t spoil_encode(const struct list *l, const struct field *f, uint8_t *payload, size_t *used, uint32_t answer)
+{
+    int refused = fault == REFUSES && calls % REFUSED_EVERY == 0;
+    size_t i, at;
+    uint8_t bit = bit_beside(f, &at);
+    if (refused || fault == WRITES_NOTHING)
+        memcpy(payload, old, l->room);
+    for (i = 0; fault == KEEPS_UNDER_MASK && i < l->room; i++)
+        payload[i] |= old[i];
+    if (fault == SETS_MORE)
+        payload[at] |= bit;
+    if (fault == LEAVES_TURNED)
+        leave_turned(f, payload);
+    *used += fault == GROWS;
+    return refused ? DCT_PAYLOAD_LACKS_ROOM : answer;
+}
+
+static void spoil_clear(const struct list *l, const struct field *f, uint8_t *payload)
+{
+    size_t at;
+    uint8_t bit = bit_beside(f, &at);
+    if (fault == CLEARS_NOTHING)
+        memcpy(payload, old, l->room);
+    if (fault == CLEARS_MORE)
+        payload[at] &= (uint8_t)~bit;
+}
+
+static void spoil_decode(uint8_t *output, size_t length, struct dct_report *report)
+{
+    report->bit_count += fault == COUNTS_MORE;
+    report->bit_count -= fault == COUNTS_LESS;
+    if (fault == READS_MORE)
+        output[report->byte_count - 1] |= 1;
+    if (fault == READS_LESS)
+        output[report->byte_count - 1] &= 0xFE;
+    if (fault == WRITES_PAST && report->byte_count < length)
+        output[report->byte_count] = 0;
+}
+
+uint32_t encode(const struct list *l, const struct field *f, const struct value *v, uint8_t *payload, size_t *used,
+                struct dct_report *report)
+{
+    uint32_t answer;
+    calls++;
+    if (fault != NONE)
+        memcpy(old, payload, l->room);
+    if (fault == CLEARS_FIRST && f->mask_length == 0)
+        dct_clear(record(f), RECORD, store(l), l->store_length, payload, l->room, l->room, f->byte_pos, f->bit_pos, report);
+    answer = dct_encode(record(f), RECORD, store(l), l->store_length, input(v), v->length, payload, l->room, used, f->byte_pos,
+                        f->bit_pos, report);
+    return fault == NONE ? answer : spoil_encode(l, f, payload, used, answer);
+}
+
+uint32_t clear(const struct list *l, const struct field *f, uint8_t *payload, struct dct_report *report)
+{
+    struct field asked = fault == CLEARS_LENGTH ? without_mask(f) : *f;
+    uint32_t answer;
+    calls++;
+    if (fault != NONE)
+        memcpy(old, payload, l->room);
+    answer = dct_clear(record(&asked), RECORD, store(l), l->store_length, payload, l->room, l->room, f->byte_pos, f->bit_pos,
+                       report);
+    if (fault != NONE)
+        spoil_clear(l, f, payload);
+    return answer;
+}
+
+uint32_t decode(const struct list *l, const struct field *f, const uint8_t *payload, uint8_t *output, size_t length,
+                struct dct_report *report)
+{
+    uint32_t answer;
+    calls++;
+    answer = dct_decode(record(f), RECORD, store(l), l->store_length, payload, l->room, f->byte_pos, f->bit_pos, output, length,
+                        report);
+    if (fault != NONE && report->byte_count > 0)
+        spoil_decode(output, length, report);
+    return answer;
+}
