@@ -12,13 +12,12 @@ use Rattle.bits.proofs.Bytes.{Bytes}
 use Rattle.masks.specs.Mask.{Mask}
 use Rattle.pack.specs.Source.{counted}
 use Rattle.payload.specs.Answers.{Payload, Encoded, payloadOf}
-use Rattle.ownership.specs.Ownership.{writtenIn, imprint, landed}
+use Rattle.ownership.specs.Changes.{writtenIn, imprint, landed}
 use Rattle.ownership.proofs.Laid.{Inside}
 use Rattle.ownership.proofs.Writes.{landed-zero, imprint-none, length-writtenIn, bytes-writtenIn, write-law}
-use Rattle.ownership.proofs.Sources.{bits-under, standard-under}
 use Rattle.ownership.proofs.Permutations.{total}
 use Rattle.demands.specs.Changing.{Placed, Entry, with, write, build, keeps, allKeep, accepted, own, cutOf}
-use Rattle.demands.proofs.Calls.{Taken, accepted-taken, bitsOf, write-done}
+use Rattle.demands.proofs.Calls.{Taken, accepted-taken, bitsOf, writable, write-done}
 use Rattle.demands.proofs.Owners.{refusing, refusing-cons, owners}
 
 -- ---- one write, of a field that is accepted
@@ -30,7 +29,7 @@ landsAt n e k = bitAt (imprint (cutOf (e .field)) (bitsOf (e .field) (e .value))
 module _ (n : ℕ) (f : Placed) (v : List ℕ) (t : Taken n f) where
   pub lands-none : (k : ℕ) → k < 8 * n → own n f k ≡ false → landsAt n (with f v) k ≡ 0
   lands-none k l e =
-      imprint-none (cutOf f) (bitsOf f v) (bits-under (counted (f .mask)) (f .type) (f .len) v) (standard-under (counted (f .mask)) (f .type) (f .len) v) n (t .inside) k l e
+      imprint-none (cutOf f) (bitsOf f v) (writable f v) n (t .inside) k l e
 
   module _ (xs : List ℕ) (long : length xs ≡ n) where
     abbrev pub next : List ℕ
@@ -40,15 +39,15 @@ module _ (n : ℕ) (f : Placed) (v : List ℕ) (t : Taken n f) where
     inside-xs = rw long (t .inside)
 
     pub length-next : length next ≡ n
-    length-next = length-writtenIn (cutOf f) (bitsOf f v) (bits-under (counted (f .mask)) (f .type) (f .len) v) (standard-under (counted (f .mask)) (f .type) (f .len) v) xs inside-xs ∙ long
+    length-next = length-writtenIn (cutOf f) (bitsOf f v) (writable f v) xs inside-xs ∙ long
 
     pub bytes-next : Bytes xs → Bytes next
-    bytes-next = bytes-writtenIn (cutOf f) (bitsOf f v) (bits-under (counted (f .mask)) (f .type) (f .len) v) (standard-under (counted (f .mask)) (f .type) (f .len) v) xs inside-xs
+    bytes-next = bytes-writtenIn (cutOf f) (bitsOf f v) (writable f v) xs inside-xs
 
     pub bits-next : (k : ℕ) → k < 8 * n → bitAt next k ≡ cond (own n f k) (landed (counted (f .mask)) (bitAt xs k) (landsAt n (with f v) k)) (bitAt xs k)
     bits-next k l =
         rw long at
-        (write-law (cutOf f) (bitsOf f v) (bits-under (counted (f .mask)) (f .type) (f .len) v) (standard-under (counted (f .mask)) (f .type) (f .len) v) xs inside-xs k (rw long l))
+        (write-law (cutOf f) (bitsOf f v) (writable f v) xs inside-xs k (rw long l))
 
 -- ---- one after the other
 

@@ -19,8 +19,10 @@ use Rattle.payload.proofs.Ways.{after-none, write-all}
 use Rattle.payload.proofs.Written.{grown-none}
 use Rattle.cutout.specs.CutOut.{put}
 use Rattle.lengths.specs.Refusals.{standardRefusal}
-use Rattle.ownership.specs.Ownership.{writtenIn, clearedIn}
+use Rattle.ownership.specs.Changes.{writtenIn, clearedIn}
 use Rattle.ownership.proofs.Laid.{Inside}
+use Rattle.ownership.proofs.Writes.{Writable}
+use Rattle.ownership.proofs.Sources.{standard-writable}
 use Rattle.demands.specs.Changing.{Placed, Entry, with, write, clear, zeros, keeps, accepted, cutOf}
 
 -- ---- what an acceptance tells
@@ -69,6 +71,9 @@ accepted-taken n f small e =
 -- the source's bits
 abbrev pub bitsOf : Placed → List ℕ → ℕ → ℕ
 bitsOf f v = standardBitsUnder (counted (f .mask)) (f .type) (f .len) v
+
+pub writable : (f : Placed) (v : List ℕ) → Writable (cutOf f) (bitsOf f v)
+writable f v = standard-writable (cutOf f) (f .type) (f .len) v refl
 
 module _ (n : ℕ) (f : Placed) (small : n ≤ 65535) (t : Taken n f) (xs : List ℕ) (long : length xs ≡ n) where
   abbrev size : ℕ

@@ -13,7 +13,7 @@ use Rattle.bits.proofs.Bytes.{Bytes, bitAt-out, ext-bits}
 use Rattle.masks.specs.Mask.{Mask}
 use Rattle.pack.specs.Source.{counted}
 use Rattle.payload.specs.Answers.{Payload, Encoded, done, payloadOf}
-use Rattle.ownership.specs.Ownership.{writtenIn, clearedIn, landed}
+use Rattle.ownership.specs.Changes.{writtenIn, clearedIn, landed}
 use Rattle.ownership.proofs.Laid.{Inside, bitAt-zeros}
 use Rattle.ownership.proofs.Writes.{landed-zero}
 use Rattle.ownership.proofs.Clears.{length-clearedIn, bytes-clearedIn, clear-law}

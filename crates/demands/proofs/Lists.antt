@@ -5,14 +5,16 @@ use mathlib.Core.Bool.{Bool, true, cond}
 use mathlib.Core.List.{List, [], _∷_, _++_, List·Permᴰ·cons, List·Permᴰ·swap, Permᴰ·refl}
 use Prim.Native.Nat.{ℕ}
 use native.Mathlib.Omega.{arith}
-use lib.ListN.{replicate}
-use Rattle.kinds.proofs.Examples.{Example, hold, _is_}
+use lib.ListN.{length, replicate}
+use lib.Dec.{eqb}
+use Rattle.kinds.proofs.Examples.{Example, equal, hold, _is_}
+use Rattle.kinds.specs.Types.{bytesFor}
 use Rattle.kinds.specs.declared.types.DataType.{DataType}
 use Rattle.kinds.specs.declared.types.DataType.the-variants.{Int32, UInt32, Float32, ByteField}
 use Rattle.kinds.specs.declared.types.ByteOrder.the-variants.{Keep, Reverse}
 use Rattle.order.specs.Order.{ordered}
 use Rattle.bits.specs.Bits.{bit, bitAt, number, packed}
-use Rattle.bits.specs.Moves.{extracted, injected, overlaid}
+use Rattle.bits.specs.Moves.{first, extracted, injected, overlaid}
 use Rattle.masks.specs.Mask.{Mask, noMask, plainMask, condensedMask}
 use Rattle.masks.specs.Plain.{maskBit}
 use Rattle.condensed.specs.Condensed.{frontBit, onesBelow, gathered, onesOf, condensed, replacement, replaced}
@@ -24,7 +26,7 @@ use Rattle.unpack.specs.Answers.{Decoded, answer}
 use Rattle.unpack.specs.Unpacked.{unpacked}
 use Rattle.readers.specs.Finding.{fieldFinding}
 use Rattle.ownership.specs.Ownership.{footprint, owns}
-use Rattle.demands.specs.Changing.{Placed, Entry, with, readBack, zeros, build, allKeep, allAccepted, cutOf, apartBelow, apartFrom, disjoint, change, Changed}
+use Rattle.demands.specs.Changing.{Placed, Entry, with, readBack, zeros, build, allKeep, allAccepted, cutOf, apartBelow, apartFrom, disjoint, wholeOrShort, insideBytes, unmasked, change, Changed}
 use Rattle.demands.proofs.Changed.{demand-3}
 
 -- fields of so many bits at a byte and a bit position
@@ -69,12 +71,30 @@ changed n (e ∷ l) v =
 abbrev apartly : List ℕ → List ℕ → List ℕ → List ℕ
 apartly owned built new = 1 ∷ 1 ∷ (owned ++ (built ++ new))
 
--- number, bits and bytes that are read after a change of n bytes of ones, and the output
+-- accepted and apart, what a change of the first field makes, and what building anew does
+abbrev against : ℕ → List Entry → List ℕ → List ℕ
+against n [] v = []
+against n (e ∷ l) v = judged n (e ∷ l) ++ (change (e .field) v (build (e ∷ l) (zeros n)) .payload .bytes ++ build (with (e .field) v ∷ l) (zeros n) .bytes)
+
+-- the premises of the read-back in their order: length, place, mask, the value's size, and its bits
+abbrev premises : Placed → List ℕ → List ℕ
+premises f v =
+    flag (wholeOrShort (f .len))
+    ∷ flag (insideBytes f)
+    ∷ flag (unmasked (f .mask))
+    ∷ flag (eqb (length v) (bytesFor (f .len)))
+    ∷ flag (equal v (packed (length v) (first (f .len) (bitAt v))))
+    ∷ []
+
+abbrev premised : ℕ → ℕ → ℕ → ℕ → ℕ → List ℕ
+premised a b c d e = a ∷ b ∷ c ∷ d ∷ e ∷ []
+
+-- then number, bits and bytes of what is read after a change of n bytes of ones, and the output
 abbrev flatDecoded : Decoded → List ℕ
 flatDecoded d = d .report .number ∷ d .report .«bit_count» ∷ d .report .«byte_count» ∷ d .output
 
 abbrev back : ℕ → Placed → List ℕ → List ℕ
-back n f v = flatDecoded (readBack f (change f v (payloadOf (replicate n 0xFF) n) .payload) (replicate 3 0xEE))
+back n f v = premises f v ++ flatDecoded (readBack f (change f v (payloadOf (replicate n 0xFF) n) .payload) (replicate 3 0xEE))
 
 examples : List Example
 examples =
@@ -106,6 +126,8 @@ examples =
     ∷ (changed 2 (with (high 8 0 0) [] ∷ with (high 8 1 0) (0x11 ∷ 0x22 ∷ 0x33 ∷ []) ∷ []) (0x44 ∷ 0x55 ∷ []) is apartly (0xFF ∷ 0x00 ∷ 0x00 ∷ 0xFF ∷ []) (0x00 ∷ 0x33 ∷ []) (0x55 ∷ 0x33 ∷ []))
     -- a condensed write with fewer bits than ones
     ∷ (changed 2 (with (condensedBy (0xFF ∷ 0xFF ∷ []) (high 16 0 0)) (0x12 ∷ []) ∷ []) [] is apartly (0xFF ∷ 0xFF ∷ []) (0xFF ∷ 0x12 ∷ []) (0xFF ∷ 0xFF ∷ []))
+    -- two fields on the same bits: what is changed is not what is built anew, though every call gives 0
+    ∷ (against 1 (with (high 8 0 0) (0x0F ∷ []) ∷ with (high 8 0 0) (0xF0 ∷ []) ∷ []) (0x00 ∷ []) is (1 ∷ 0 ∷ 0x00 ∷ 0xF0 ∷ []))
     -- two fields that own one bit
     ∷ (judged 1 (with (high 4 0 0) [] ∷ with (high 2 0 3) [] ∷ []) is (1 ∷ 0 ∷ []))
     -- a short mask that repeats into another field
@@ -120,17 +142,17 @@ examples =
     ∷ (judged 2 (with (condensedBy (0x00 ∷ 0xFF ∷ []) (high 8 0 0)) [] ∷ []) is (0 ∷ 1 ∷ []))
     ∷ (judged 2 (with (typed ByteField (high 8 0 0)) [] ∷ []) is (0 ∷ 1 ∷ []))
     -- read back: high-low, low-high, inside a byte
-    ∷ (back 1 (high 8 0 0) (0xA5 ∷ []) is (0 ∷ 8 ∷ 1 ∷ 0xA5 ∷ 0xEE ∷ 0xEE ∷ []))
-    ∷ (back 2 (low 16 0 0) (0x12 ∷ 0x34 ∷ []) is (0 ∷ 16 ∷ 2 ∷ 0x12 ∷ 0x34 ∷ 0xEE ∷ []))
-    ∷ (back 1 (high 4 0 3) (0x09 ∷ []) is (0 ∷ 4 ∷ 1 ∷ 0x09 ∷ 0xEE ∷ 0xEE ∷ []))
+    ∷ (back 1 (high 8 0 0) (0xA5 ∷ []) is (premised 1 1 1 1 1 ++ (0 ∷ 8 ∷ 1 ∷ 0xA5 ∷ 0xEE ∷ 0xEE ∷ [])))
+    ∷ (back 2 (low 16 0 0) (0x12 ∷ 0x34 ∷ []) is (premised 1 1 1 1 1 ++ (0 ∷ 16 ∷ 2 ∷ 0x12 ∷ 0x34 ∷ 0xEE ∷ [])))
+    ∷ (back 1 (high 4 0 3) (0x09 ∷ []) is (premised 1 1 1 1 1 ++ (0 ∷ 4 ∷ 1 ∷ 0x09 ∷ 0xEE ∷ 0xEE ∷ [])))
     -- not so: a length of 12, bits above the length, an empty mask, condensed too, and across the edge of a byte
-    ∷ (back 2 (high 12 0 0) (0x0A ∷ 0xBC ∷ []) is (0 ∷ 12 ∷ 2 ∷ 0x0A ∷ 0x0C ∷ 0xEE ∷ []))
-    ∷ (back 1 (high 4 0 0) (0xF5 ∷ []) is (0 ∷ 4 ∷ 1 ∷ 0x05 ∷ 0xEE ∷ 0xEE ∷ []))
-    ∷ (back 1 (plain [] (high 8 0 0)) (0xA5 ∷ []) is (0 ∷ 8 ∷ 1 ∷ 0x00 ∷ 0xEE ∷ 0xEE ∷ []))
-    ∷ (back 1 (condensedBy [] (high 8 0 0)) (0xA5 ∷ []) is (0 ∷ 0 ∷ 0 ∷ 0xEE ∷ 0xEE ∷ 0xEE ∷ []))
-    ∷ (back 2 (high 8 0 4) (0xFF ∷ []) is (27 ∷ 0 ∷ 0 ∷ 0xEE ∷ 0xEE ∷ 0xEE ∷ []))
+    ∷ (back 2 (high 12 0 0) (0x0A ∷ 0xBC ∷ []) is (premised 0 1 1 1 1 ++ (0 ∷ 12 ∷ 2 ∷ 0x0A ∷ 0x0C ∷ 0xEE ∷ [])))
+    ∷ (back 1 (high 4 0 0) (0xF5 ∷ []) is (premised 1 1 1 1 0 ++ (0 ∷ 4 ∷ 1 ∷ 0x05 ∷ 0xEE ∷ 0xEE ∷ [])))
+    ∷ (back 1 (plain [] (high 8 0 0)) (0xA5 ∷ []) is (premised 1 1 0 1 1 ++ (0 ∷ 8 ∷ 1 ∷ 0x00 ∷ 0xEE ∷ 0xEE ∷ [])))
+    ∷ (back 1 (condensedBy [] (high 8 0 0)) (0xA5 ∷ []) is (premised 1 1 0 1 1 ++ (0 ∷ 0 ∷ 0 ∷ 0xEE ∷ 0xEE ∷ 0xEE ∷ [])))
+    ∷ (back 2 (high 8 0 4) (0xFF ∷ []) is (premised 1 0 1 1 1 ++ (27 ∷ 0 ∷ 0 ∷ 0xEE ∷ 0xEE ∷ 0xEE ∷ [])))
     -- nor where the value does not fill the field's bytes
-    ∷ (back 2 (high 16 0 0) (0x12 ∷ []) is (0 ∷ 16 ∷ 2 ∷ 0x00 ∷ 0x12 ∷ 0xEE ∷ []))
+    ∷ (back 2 (high 16 0 0) (0x12 ∷ []) is (premised 1 1 1 0 1 ++ (0 ∷ 16 ∷ 2 ∷ 0x00 ∷ 0x12 ∷ 0xEE ∷ [])))
     ∷ []
 
 all-hold : hold examples ≡ true

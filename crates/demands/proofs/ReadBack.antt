@@ -30,12 +30,12 @@ use Rattle.unpack.proofs.Answers.{has-room}
 use Rattle.readers.specs.Finding.{fieldFinding}
 use Rattle.decode.specs.Decode.{finding, decodeOf}
 use Rattle.lengths.specs.Refusals.{standardRefusal}
-use Rattle.ownership.specs.Ownership.{Cut, writtenIn, clearedIn}
+use Rattle.ownership.specs.Ownership.{Cut}
+use Rattle.ownership.specs.Changes.{writtenIn, clearedIn}
 use Rattle.ownership.proofs.Laid.{Inside}
-use Rattle.ownership.proofs.Sources.{bits-under, standard-under}
 use Rattle.ownership.proofs.ReadBack.{stands}
 use Rattle.demands.specs.Changing.{Placed, fieldOf, cutOf, wholeOrShort, insideBytes, unmasked, Exact}
-use Rattle.demands.proofs.Calls.{Taken, bitsOf}
+use Rattle.demands.proofs.Calls.{Taken, bitsOf, writable}
 
 -- ---- the source of an exact value is its bits
 
@@ -87,7 +87,7 @@ module _ (n : ℕ) (type : DataType) (order : ByteOrder) (len at pos : ℕ) (sma
   bit-back : (i : ℕ) → i < len → bitAt (ordered order (cut at (bytesFor len) ys)) (pos + i) ≡ bitAt v i
   bit-back i l =
       ap (λ (m : ℕ). bitAt (ordered order (cut at m ys)) (pos + i)) (sym one-cut)
-      ∙ stands (cutOf f) (bitsOf f v) (bits-under noMask type len v) (standard-under noMask type len v) xs (rw long (t .inside)) i l refl
+      ∙ stands (cutOf f) (bitsOf f v) (writable f v) xs (rw long (t .inside)) i l refl
       ∙ exact-bits type len v i (t .numeric) (exact .fills) whole l
 
   value-back : extracted len pos (ordered order (cut at (bytesFor len) ys)) ≡ v

@@ -5,12 +5,12 @@ use mathlib.Core.List.{List}
 use Prim.Native.Nat.{ℕ, _*_, _<_}
 use lib.ListN.{length}
 use Rattle.bits.specs.Bits.{bitAt}
-use Rattle.bits.proofs.Numbers.{Bits}
 use Rattle.bits.proofs.Bytes.{Bytes, ext-bits}
 use Rattle.masks.specs.Mask.{Mask}
-use Rattle.ownership.specs.Ownership.{Cut, writtenIn, owns, imprint, landed}
+use Rattle.ownership.specs.Ownership.{Cut, owns}
+use Rattle.ownership.specs.Changes.{writtenIn, imprint, landed}
 use Rattle.ownership.proofs.Laid.{Inside}
-use Rattle.ownership.proofs.Writes.{Under, length-writtenIn, bytes-writtenIn, write-law}
+use Rattle.ownership.proofs.Writes.{Writable, length-writtenIn, bytes-writtenIn, write-law}
 
 -- no bit of n bytes is owned by both
 abbrev pub Apart : Cut → Cut → ℕ → Type 0
@@ -24,27 +24,21 @@ in-either-order true false m m′ s s′ x h = refl
 in-either-order false true m m′ s s′ x h = refl
 in-either-order false false m m′ s s′ x h = refl
 
--- a cut-out inside n bytes, and bits that may be written there
-pub record Writable (c : Cut) (bits : ℕ → ℕ) (n : ℕ) : Type 0 where
-  pub inside : Inside c n
-  pub zero-one : Bits bits
-  pub masked : Under c bits
-
-module _ (c c′ : Cut) (bits bits′ : ℕ → ℕ) (xs : List ℕ) (w : Writable c bits (length xs)) (w′ : Writable c′ bits′ (length xs)) where
+module _ (c c′ : Cut) (bits bits′ : ℕ → ℕ) (xs : List ℕ) (w : Writable c bits) (w′ : Writable c′ bits′) (h : Inside c (length xs)) (h′ : Inside c′ (length xs)) where
   abbrev ys : List ℕ
   ys = writtenIn c′ bits′ xs
 
   length-ys : length ys ≡ length xs
-  length-ys = length-writtenIn c′ bits′ (w′ .zero-one) (w′ .masked) xs (w′ .inside)
+  length-ys = length-writtenIn c′ bits′ w′ xs h′
 
   inside-ys : Inside c (length ys)
-  inside-ys = rw length-ys (w .inside)
+  inside-ys = rw length-ys h
 
   length-both : length (writtenIn c bits ys) ≡ length xs
-  length-both = length-writtenIn c bits (w .zero-one) (w .masked) ys inside-ys ∙ length-ys
+  length-both = length-writtenIn c bits w ys inside-ys ∙ length-ys
 
   bytes-both : Bytes xs → Bytes (writtenIn c bits ys)
-  bytes-both h = bytes-writtenIn c bits (w .zero-one) (w .masked) ys inside-ys (bytes-writtenIn c′ bits′ (w′ .zero-one) (w′ .masked) xs (w′ .inside) h)
+  bytes-both b = bytes-writtenIn c bits w ys inside-ys (bytes-writtenIn c′ bits′ w′ xs h′ b)
 
   bits-both : (k : ℕ) → k < 8 * length xs
       → bitAt (writtenIn c bits ys) k
@@ -52,16 +46,16 @@ module _ (c c′ : Cut) (bits bits′ : ℕ → ℕ) (xs : List ℕ) (w : Writab
       (landed (c .mask) (cond (owns c′ (length xs) k) (landed (c′ .mask) (bitAt xs k) (bitAt (imprint c′ bits′ (length xs)) k)) (bitAt xs k)) (bitAt (imprint c bits (length xs)) k))
       (cond (owns c′ (length xs) k) (landed (c′ .mask) (bitAt xs k) (bitAt (imprint c′ bits′ (length xs)) k)) (bitAt xs k))
   bits-both k l =
-      rw (sym (write-law c′ bits′ (w′ .zero-one) (w′ .masked) xs (w′ .inside) k l))
-      (write-law c bits (w .zero-one) (w .masked) ys inside-ys k (rw length-ys l) ∙ rw length-ys)
+      rw (sym (write-law c′ bits′ w′ xs h′ k l))
+      (write-law c bits w ys inside-ys k (rw length-ys l) ∙ rw length-ys)
 
-pub writes-commute : (c c′ : Cut) (bits bits′ : ℕ → ℕ) (xs : List ℕ) → Bytes xs → Writable c bits (length xs) → Writable c′ bits′ (length xs) → Apart c c′ (length xs)
+pub writes-commute : (c c′ : Cut) (bits bits′ : ℕ → ℕ) (xs : List ℕ) → Bytes xs → Writable c bits → Writable c′ bits′ → Inside c (length xs) → Inside c′ (length xs) → Apart c c′ (length xs)
     → writtenIn c bits (writtenIn c′ bits′ xs) ≡ writtenIn c′ bits′ (writtenIn c bits xs)
-writes-commute c c′ bits bits′ xs h w w′ apart =
-    let one = length-both c c′ bits bits′ xs w w′ in
-    let other = length-both c′ c bits′ bits xs w′ w in
-    ext-bits _ _ (bytes-both c c′ bits bits′ xs w w′ h) (bytes-both c′ c bits′ bits xs w′ w h) (one ∙ sym other) (λ k l.
+writes-commute c c′ bits bits′ xs b w w′ h h′ apart =
+    let one = length-both c c′ bits bits′ xs w w′ h h′ in
+    let other = length-both c′ c bits′ bits xs w′ w h′ h in
+    ext-bits _ _ (bytes-both c c′ bits bits′ xs w w′ h h′ b) (bytes-both c′ c bits′ bits xs w′ w h′ h b) (one ∙ sym other) (λ k l.
     let below : k < 8 * length xs = rw one at l in
-    bits-both c c′ bits bits′ xs w w′ k below
+    bits-both c c′ bits bits′ xs w w′ h h′ k below
     ∙ in-either-order (owns c (length xs) k) (owns c′ (length xs) k) (c .mask) (c′ .mask) (bitAt (imprint c bits (length xs)) k) (bitAt (imprint c′ bits′ (length xs)) k) (bitAt xs k) (apart k below)
-    ∙ sym (bits-both c′ c bits′ bits xs w′ w k below))
+    ∙ sym (bits-both c′ c bits′ bits xs w′ w h′ h k below))

@@ -12,14 +12,14 @@ use Rattle.order.specs.Order.{ordered}
 use Rattle.order.proofs.Index.{length-ordered, ordered-ordered}
 use Rattle.bits.specs.Bits.{bitAt}
 use Rattle.bits.specs.Moves.{first, raised, within}
-use Rattle.bits.proofs.Numbers.{Bits}
 use Rattle.bits.proofs.Moves.{first-in, raised-in, within-in}
 use Rattle.cutout.specs.CutOut.{ownedBit, cleared, put}
 use Rattle.payload.specs.Writing.{spliced, inCutOut, cutBytes}
-use Rattle.ownership.specs.Ownership.{Cut, sourceFor, writtenIn, clearedIn, ownedAt, sourceAt}
+use Rattle.ownership.specs.Ownership.{Cut, ownedAt}
+use Rattle.ownership.specs.Changes.{sourceFor, writtenIn, clearedIn, sourceAt}
 use Rattle.ownership.proofs.Places.{Pointwise}
 use Rattle.ownership.proofs.Laid.{Inside}
-use Rattle.ownership.proofs.Writes.{Under, clearsTo, putsTo, landed-zero, pointwise-cleared, pointwise-put}
+use Rattle.ownership.proofs.Writes.{Writable, clearsTo, putsTo, landed-zero, pointwise-cleared, pointwise-put}
 use Rattle.ownership.proofs.Clears.{length-clearedIn}
 
 -- the ordered cut-out after a change is the changed one
@@ -34,7 +34,7 @@ ordered-inCutOut o f at n xs fits e =
     ap (λ (ys : List ℕ). ordered o (take n ys)) (drop-at (take at xs) (zs ++ rest) at front) ∙ ap (ordered o) (take-at zs rest n mid)
     ∙ ordered-ordered o (f (ordered o (cut at n xs)))
 
-module _ (c : Cut) (bits : ℕ → ℕ) (b : Bits bits) (u : Under c bits) (xs : List ℕ) (h : Inside c (length xs)) where
+module _ (c : Cut) (bits : ℕ → ℕ) (w : Writable c bits) (xs : List ℕ) (h : Inside c (length xs)) where
   abbrev n : ℕ
   n = cutBytes (c .pos) (c .size)
 
@@ -57,7 +57,7 @@ module _ (c : Cut) (bits : ℕ → ℕ) (b : Bits bits) (u : Under c bits) (xs :
       let cut-cleared : ordered (c .order) (cut (c .at) n (clearedIn c xs)) ≡ zs =
       ordered-inCutOut (c .order) (cleared (c .mask) (c .size) (c .pos)) (c .at) n xs h length-zs in
       let after : List ℕ → List ℕ = put (sourceFor c bits) (c .pos) in
-      let long : length (after zs) ≡ n = pointwise-put c bits b u .size zs length-zs in
+      let long : length (after zs) ≡ n = pointwise-put c bits w .size zs length-zs in
       ordered-inCutOut (c .order) after (c .at) n (clearedIn c xs) (rw (length-clearedIn c xs h) h) (rw cut-cleared long) ∙ ap after cut-cleared
 
   -- bit pos+i is bit i of the source, where bit i is owned
@@ -69,4 +69,4 @@ module _ (c : Cut) (bits : ℕ → ℕ) (b : Bits bits) (u : Under c bits) (xs :
       let source : sourceAt c bits k ≡ bits i = raised-in (c .pos) (first (c .size) bits) i ∙ first-in (c .size) bits i l in
       let cleared-bit : bitAt zs k ≡ 0 = pointwise-cleared c .bits ys length-ys k (omega arith) ∙ rw owned in
       rw written-stands
-      (pointwise-put c bits b u .bits zs length-zs k (omega arith) ∙ rw (owned, cleared-bit, source) (landed-zero (c .mask) (bits i)))
+      (pointwise-put c bits w .bits zs length-zs k (omega arith) ∙ rw (owned, cleared-bit, source) (landed-zero (c .mask) (bits i)))

@@ -18,7 +18,8 @@ use Rattle.masks.specs.Mask.{Mask, noMask, plainMask, condensedMask}
 use Rattle.masks.proofs.Masked.{maskBit-lt}
 use Rattle.payload.specs.Writing.{cutBytes}
 use Rattle.cutout.specs.CutOut.{ownedBit, cleared, readied, put}
-use Rattle.ownership.specs.Ownership.{Cut, sourceFor, writtenIn, ownedAt, footprint, owns, sourceAt, imprint, landed, afterWrite}
+use Rattle.ownership.specs.Ownership.{Cut, ownedAt, footprint, owns}
+use Rattle.ownership.specs.Changes.{sourceFor, writtenIn, sourceAt, imprint, landed, afterWrite}
 use Rattle.ownership.proofs.Places.{Pointwise, pointwise-packed, pointwise-as, pointwise-then, length-inCutOut, bytes-inCutOut}
 use Rattle.ownership.proofs.Laid.{Inside, holds, standsAt, bitAt-inCut, bitAt-laid}
 
@@ -33,20 +34,21 @@ bits-owned c i = bits-cond (within (c .size) (c .pos) i) (ownedBit-lt (c .mask) 
 pub bits-source : (c : Cut) (bits : ℕ → ℕ) → Bits bits → Bits (sourceAt c bits)
 bits-source c bits b = bits-raised (c .pos) (first (c .size) bits) (bits-first (c .size) bits b)
 
--- a source is zero under mask zeros
-abbrev pub Under : Cut → (ℕ → ℕ) → Type 0
-Under c bits = (i : ℕ) → i < c .size → ownedBit (c .mask) i ≡ 0 → bits i ≡ 0
+-- what may be written: zeros and ones, and zeros alone under mask zeros
+pub record Writable (c : Cut) (bits : ℕ → ℕ) : Type 0 where
+  pub zero-one : Bits bits
+  pub under-zeros : (i : ℕ) → i < c .size → ownedBit (c .mask) i ≡ 0 → bits i ≡ 0
 
--- then it is zero at every bit that is not owned
-pub source-none : (c : Cut) (bits : ℕ → ℕ) → Under c bits → (i : ℕ) → ownedAt c i ≡ 0 → sourceAt c bits i ≡ 0
-source-none c bits u i e =
+-- then the source is zero at every bit that is not owned
+pub source-none : (c : Cut) (bits : ℕ → ℕ) → Writable c bits → (i : ℕ) → ownedAt c i ≡ 0 → sourceAt c bits i ≡ 0
+source-none c bits w i e =
     ⊎-elim (λ (a : i < c .pos). raised-out (c .pos) (first (c .size) bits) i a)
     (λ (a : c .pos ≤ i).
     rw (le-leb (c .pos) i a)
     (⊎-elim
     (λ (d : i < c .pos + c .size).
     let here : i - c .pos < c .size = omega arith in
-    first-in (c .size) bits (i - c .pos) here ∙ u (i - c .pos) here (rw (le-leb (c .pos) i a, lt-ltb i (c .pos + c .size) d) at e))
+    first-in (c .size) bits (i - c .pos) here ∙ w .under-zeros (i - c .pos) here (rw (le-leb (c .pos) i a, lt-ltb i (c .pos + c .size) d) at e))
     (λ (d : c .pos + c .size ≤ i). first-out (c .size) bits (i - c .pos) (omega arith))
     (below i (c .pos + c .size))))
     (below i (c .pos))
@@ -92,31 +94,31 @@ put-bit zero b s lm e = let none = e refl in omega arith
 put-bit (suc zero) b s lm e = omega arith
 put-bit (suc (suc m)) b s lm e = absurd (omega arith)
 
-module _ (c : Cut) (bits : ℕ → ℕ) (b : Bits bits) (u : Under c bits) where
+module _ (c : Cut) (bits : ℕ → ℕ) (w : Writable c bits) where
   pointwise-over : Pointwise (cutBytes (c .pos) (c .size)) (injected (c .size) (c .pos) bits) (λ i x. cond (eqb (ownedAt c i) 1) (max x (sourceAt c bits i)) x)
   pointwise-over =
-      pointwise-as _ (injected (c .size) (c .pos) bits) (λ i x. max x (sourceAt c bits i)) (λ i x. cond (eqb (ownedAt c i) 1) (max x (sourceAt c bits i)) x) (pointwise-injected c bits b)
-      (λ i x l. or-bit (ownedAt c i) x (sourceAt c bits i) (bits-owned c i) (source-none c bits u i))
+      pointwise-as _ (injected (c .size) (c .pos) bits) (λ i x. max x (sourceAt c bits i)) (λ i x. cond (eqb (ownedAt c i) 1) (max x (sourceAt c bits i)) x) (pointwise-injected c bits (w .zero-one))
+      (λ i x l. or-bit (ownedAt c i) x (sourceAt c bits i) (bits-owned c i) (source-none c bits w i))
 
   pointwise-anew : Pointwise (cutBytes (c .pos) (c .size)) (λ ys. injected (c .size) (c .pos) bits (cleared (c .mask) (c .size) (c .pos) ys))
       (λ i x. cond (eqb (ownedAt c i) 1) (sourceAt c bits i) x)
   pointwise-anew =
       pointwise-as _ _ (λ i x. max (clearsTo c i x) (sourceAt c bits i)) (λ i x. cond (eqb (ownedAt c i) 1) (sourceAt c bits i) x)
-      (pointwise-then _ (cleared (c .mask) (c .size) (c .pos)) (injected (c .size) (c .pos) bits) (clearsTo c) (λ i x. max x (sourceAt c bits i)) (pointwise-cleared c) (pointwise-injected c bits b))
-      (λ i x l. put-bit (ownedAt c i) x (sourceAt c bits i) (bits-owned c i) (source-none c bits u i))
+      (pointwise-then _ (cleared (c .mask) (c .size) (c .pos)) (injected (c .size) (c .pos) bits) (clearsTo c) (λ i x. max x (sourceAt c bits i)) (pointwise-cleared c) (pointwise-injected c bits (w .zero-one)))
+      (λ i x l. put-bit (ownedAt c i) x (sourceAt c bits i) (bits-owned c i) (source-none c bits w i))
 
 -- a write clears what it owns first under a mask, and not without one
 abbrev Puts : Cut → (ℕ → ℕ) → Type 0
-Puts c bits = Bits bits → Under c bits → Pointwise (cutBytes (c .pos) (c .size)) (put (sourceFor c bits) (c .pos)) (putsTo c bits)
+Puts c bits = Writable c bits → Pointwise (cutBytes (c .pos) (c .size)) (put (sourceFor c bits) (c .pos)) (putsTo c bits)
 
 abbrev under : Cut → Mask → Cut
 under c mask = record { order = c .order; at = c .at; pos = c .pos; size = c .size; mask = mask }
 
 put-under : (c : Cut) (mask : Mask) (bits : ℕ → ℕ) → Puts (under c mask) bits
 unfolding readied
-put-under c noMask bits b u = pointwise-over (under c noMask) bits b u
-put-under c (plainMask mask) bits b u = pointwise-anew (under c (plainMask mask)) bits b u
-put-under c (condensedMask mask) bits b u = pointwise-anew (under c (condensedMask mask)) bits b u
+put-under c noMask bits w = pointwise-over (under c noMask) bits w
+put-under c (plainMask mask) bits w = pointwise-anew (under c (plainMask mask)) bits w
+put-under c (condensedMask mask) bits w = pointwise-anew (under c (condensedMask mask)) bits w
 
 pub pointwise-put : (c : Cut) (bits : ℕ → ℕ) → Puts c bits
 pointwise-put c bits = put-under c (c .mask) bits
@@ -149,21 +151,21 @@ none-outside true (suc zero) s l e h = cc
 none-outside true (suc (suc m)) s l e h = absurd (omega arith)
 none-outside false m s l e h = refl
 
-module _ (c : Cut) (bits : ℕ → ℕ) (b : Bits bits) (u : Under c bits) where
+module _ (c : Cut) (bits : ℕ → ℕ) (w : Writable c bits) where
   -- a source has no bit at a place that is not owned
   pub imprint-none : (n : ℕ) → Inside c n → (k : ℕ) → k < 8 * n → owns c n k ≡ false → bitAt (imprint c bits n) k ≡ 0
   unfolding owns
   imprint-none n h k l e =
       let i = standsAt c n k in
-      bitAt-imprint c bits n b h k l
-      ∙ none-outside (holds c n k) (ownedAt c i) (sourceAt c bits i) (bits-owned c i) (source-none c bits u i) (rw (bitAt-footprint c n h k l) at e)
+      bitAt-imprint c bits n (w .zero-one) h k l
+      ∙ none-outside (holds c n k) (ownedAt c i) (sourceAt c bits i) (bits-owned c i) (source-none c bits w i) (rw (bitAt-footprint c n h k l) at e)
 
   module _ (xs : List ℕ) (h : Inside c (length xs)) where
     pub length-writtenIn : length (writtenIn c bits xs) ≡ length xs
-    length-writtenIn = length-inCutOut (c .order) (c .at) (cutBytes (c .pos) (c .size)) (put (sourceFor c bits) (c .pos)) (putsTo c bits) (pointwise-put c bits b u) xs h
+    length-writtenIn = length-inCutOut (c .order) (c .at) (cutBytes (c .pos) (c .size)) (put (sourceFor c bits) (c .pos)) (putsTo c bits) (pointwise-put c bits w) xs h
 
     pub bytes-writtenIn : Bytes xs → Bytes (writtenIn c bits xs)
-    bytes-writtenIn = bytes-inCutOut (c .order) (c .at) (cutBytes (c .pos) (c .size)) (put (sourceFor c bits) (c .pos)) (putsTo c bits) (pointwise-put c bits b u) xs h
+    bytes-writtenIn = bytes-inCutOut (c .order) (c .at) (cutBytes (c .pos) (c .size)) (put (sourceFor c bits) (c .pos)) (putsTo c bits) (pointwise-put c bits w) xs h
 
     -- a write leaves what it does not own, and owned bits take the source's
     pub write-law : (k : ℕ) → k < 8 * length xs → bitAt (writtenIn c bits xs) k ≡ afterWrite c bits (length xs) xs k
@@ -171,6 +173,6 @@ module _ (c : Cut) (bits : ℕ → ℕ) (b : Bits bits) (u : Under c bits) where
     write-law k l =
         let n = length xs in
         let i = standsAt c n k in
-        rw (bitAt-footprint c n h k l, bitAt-imprint c bits n b h k l)
-        (bitAt-inCut c (put (sourceFor c bits) (c .pos)) (putsTo c bits) (pointwise-put c bits b u) xs h k l
+        rw (bitAt-footprint c n h k l, bitAt-imprint c bits n (w .zero-one) h k l)
+        (bitAt-inCut c (put (sourceFor c bits) (c .pos)) (putsTo c bits) (pointwise-put c bits w) xs h k l
         ∙ at-place (holds c n k) (c .mask) (ownedAt c i) (sourceAt c bits i) (bitAt xs k))

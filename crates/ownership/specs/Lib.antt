@@ -1,2 +1,3 @@
--- Which bits of a payload a field owns, and what becomes of them.
+-- `Ownership` has which bits of a payload a field owns, and `Changes` what becomes of them.
 pub mod Ownership
+pub mod Changes
