@@ -1,24 +1,25 @@
 -- What is built of a list: every call gives 0, and each bit is what its owner writes there. Assumes nothing.
 use mathlib.Core.Path.{_≡_, refl, sym, ap, _∙_}
+use mathlib.Core.Logic.{⊎-elim}
 use mathlib.Core.Bool.{Bool, true, false, cond, _&&_}
-use mathlib.Core.List.{List, [], _∷_}
+use mathlib.Core.List.{List, [], _∷_, List·Permᴰ}
 use Prim.Native.Nat.{ℕ, _+_, _*_, _≤_, _<_}
 use native.Mathlib.Omega.{arith}
-use lib.ListN.{length}
-use lib.Dec.{eqb}
+use lib.ListN.{length, replicate, length-replicate, getD-replicate, List·getD-eq-default}
 use borrow.Author.Tests.{eq-eqb}
+use Rattle.kinds.proofs.Compare.{below}
 use Rattle.bits.specs.Bits.{bitAt}
-use Rattle.bits.proofs.Bytes.{Bytes}
+use Rattle.bits.proofs.Bytes.{Bytes, ext-bits}
 use Rattle.masks.specs.Mask.{Mask}
 use Rattle.pack.specs.Source.{counted}
-use Rattle.payload.specs.Answers.{Payload, Encoded, payloadOf}
+use Rattle.payload.specs.Answers.{Encoded, payloadOf}
 use Rattle.ownership.specs.Changes.{writtenIn, imprint, landed}
-use Rattle.ownership.proofs.Laid.{Inside}
+use Rattle.ownership.proofs.Laid.{Inside, bitAt-zeros}
 use Rattle.ownership.proofs.Writes.{landed-zero, imprint-none, length-writtenIn, bytes-writtenIn, write-law}
-use Rattle.ownership.proofs.Permutations.{total}
-use Rattle.demands.specs.Changing.{Placed, Entry, with, write, build, keeps, allKeep, accepted, own, cutOf}
+use Rattle.ownership.proofs.Permutations.{total, total-permuted}
+use Rattle.demands.specs.Changing.{Placed, Entry, with, zeros, build, keeps, allKeep, accepted, own, cutOf, allAccepted, disjoint}
 use Rattle.demands.proofs.Calls.{Taken, accepted-taken, bitsOf, writable, write-done}
-use Rattle.demands.proofs.Owners.{refusing, refusing-cons, owners}
+use Rattle.demands.proofs.Owners.{refusing, refusing-cons, none-refusing, owners, one-owner}
 
 -- ---- one write, of a field that is accepted
 
@@ -119,3 +120,38 @@ module _ (n : ℕ) (small : n ≤ 65535) where
       bits-builtOn l ys (a .1) (length-next n (e .field) (e .value) t xs long) k h (s .1 .1) (λ (g : 1 ≤ owners n k l). now ∙ s .1 .0 g) in
       let here : bitAt ys k ≡ bitAt xs k + landsAt n e k = now ∙ s .0 in
       omega (arith, rest, here)
+
+-- ---- on zero bytes
+
+pub long-zero : (n : ℕ) → length (replicate {A = ℕ} n 0) ≡ n
+long-zero n = length-replicate n 0
+
+pub bytes-zero : (n : ℕ) → Bytes (replicate n 0)
+bytes-zero n j =
+    ⊎-elim (λ (l : j < n). rw (getD-replicate {A = ℕ} n j 0 0 l) (omega arith))
+    (λ (l : n ≤ j). rw (List·getD-eq-default {A = ℕ} (replicate n 0) 0 {n = j} (rw (long-zero n) l)) (omega arith)) (below j n)
+
+module _ (n : ℕ) (small : n ≤ 65535) where
+  -- each bit is what lands there
+  pub bits-on-zeros : (l : List Entry) → refusing n l ≡ 0 → (k : ℕ) → k < 8 * n → owners n k l ≤ 1 → bitAt (builtOn l (replicate n 0)) k ≡ landing n small k l
+  bits-on-zeros l r k h one =
+      let zero = bitAt-zeros n k h in
+      let whole = bits-builtOn n small l (replicate n 0) r (long-zero n) k h one (λ (g : 1 ≤ owners n k l). zero) in
+      omega (arith, zero, whole)
+
+  -- a list that is accepted and disjoint is built to the same bytes in any order
+  pub any-order : (l l′ : List Entry) → allAccepted n l ≡ true → disjoint n l ≡ true → List·Permᴰ l l′ → build l (zeros n) ≡ build l′ (zeros n)
+  any-order l l′ a d p =
+      let none = none-refusing n l a in
+      let none′ = sym (total-permuted (λ (e : Entry). cond (accepted n (e .field)) 0 1) p) ∙ none in
+      let long = length-builtOn n small l (replicate n 0) none (long-zero n) in
+      let same : builtOn l (replicate n 0) ≡ builtOn l′ (replicate n 0) =
+      ext-bits (builtOn l (replicate n 0)) (builtOn l′ (replicate n 0)) (bytes-builtOn n small l (replicate n 0) none (long-zero n) (bytes-zero n))
+      (bytes-builtOn n small l′ (replicate n 0) none′ (long-zero n) (bytes-zero n))
+      (long ∙ sym (length-builtOn n small l′ (replicate n 0) none′ (long-zero n)))
+      (λ k h.
+      let inside : k < 8 * n = rw long at h in
+      let one = one-owner n l k inside d in
+      bits-on-zeros l none k inside one ∙ total-permuted (λ (e : Entry). landsAt n e k) p
+      ∙ sym (bits-on-zeros l′ none′ k inside (rw (sym (total-permuted (λ (e : Entry). cond (own n (e .field) k) 1 0) p)) one))) in
+      build-on n small l (replicate n 0) none (long-zero n) ∙ ap (λ (xs : List ℕ). payloadOf xs n) same ∙ sym (build-on n small l′ (replicate n 0) none′ (long-zero n))

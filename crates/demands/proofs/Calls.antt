@@ -1,11 +1,11 @@
 -- The calls of a field that is accepted: what write and clear leave of a payload, for any value. Assumes nothing.
-use mathlib.Core.Path.{_≡_, refl, sym, ap, ap₂, _∙_}
+use mathlib.Core.Path.{_≡_, refl, sym, ap₂, _∙_}
 use mathlib.Core.Logic.{⊎-elim}
-use mathlib.Core.Bool.{Bool, true, false, cond, not, _&&_}
+use mathlib.Core.Bool.{Bool, true, false, not, _&&_}
 use mathlib.Core.List.{List, []}
-use Prim.Native.Nat.{ℕ, zero, suc, _+_, _≤_, _<_, max}
+use Prim.Native.Nat.{ℕ, _≤_, max}
 use native.Mathlib.Omega.{arith}
-use lib.ListN.{length, replicate, length-replicate}
+use lib.ListN.{length, length-replicate}
 use lib.Dec.{eqb, ltb}
 use borrow.Author.Tests.{ltb-false, le-ltb, eqb-true, ne-eqb}
 use Rattle.kinds.specs.Types.{isNumeric, isByteType}
@@ -23,7 +23,7 @@ use Rattle.ownership.specs.Changes.{writtenIn, clearedIn}
 use Rattle.ownership.proofs.Laid.{Inside}
 use Rattle.ownership.proofs.Writes.{Writable}
 use Rattle.ownership.proofs.Sources.{standard-writable}
-use Rattle.demands.specs.Changing.{Placed, Entry, with, write, clear, zeros, keeps, accepted, cutOf}
+use Rattle.demands.specs.Changing.{Placed, with, write, clear, zeros, keeps, accepted, cutOf}
 
 -- ---- what an acceptance tells
 

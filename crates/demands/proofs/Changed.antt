@@ -2,27 +2,27 @@
 use mathlib.Core.Path.{_≡_, refl, sym, ap, _∙_}
 use mathlib.Core.Logic.{⊎-elim}
 use mathlib.Core.Bool.{Bool, true, false, cond}
-use mathlib.Core.List.{List, [], _∷_, _++_, List·Permᴰ}
-use Prim.Native.Nat.{ℕ, _+_, _*_, _/_, _≤_, _<_}
+use mathlib.Core.List.{List, [], _∷_, _++_}
+use Prim.Native.Nat.{ℕ, _+_, _*_, _≤_, _<_}
 use native.Mathlib.Omega.{arith}
-use lib.ListN.{length, getD, replicate, length-replicate, getD-replicate, List·getD-eq-default}
+use lib.ListN.{length, replicate}
 use borrow.Author.Tests.{eq-eqb}
 use Rattle.kinds.proofs.Compare.{below}
 use Rattle.bits.specs.Bits.{bitAt}
-use Rattle.bits.proofs.Bytes.{Bytes, bitAt-out, ext-bits}
+use Rattle.bits.proofs.Bytes.{bitAt-out, ext-bits}
 use Rattle.masks.specs.Mask.{Mask}
 use Rattle.pack.specs.Source.{counted}
 use Rattle.payload.specs.Answers.{Payload, Encoded, done, payloadOf}
-use Rattle.ownership.specs.Changes.{writtenIn, clearedIn, landed}
-use Rattle.ownership.proofs.Laid.{Inside, bitAt-zeros}
+use Rattle.ownership.specs.Changes.{clearedIn, landed}
+use Rattle.ownership.proofs.Laid.{Inside}
 use Rattle.ownership.proofs.Writes.{landed-zero}
 use Rattle.ownership.proofs.Clears.{length-clearedIn, bytes-clearedIn, clear-law}
 use Rattle.ownership.proofs.Permutations.{total, total-append, total-permuted}
-use Rattle.demands.specs.Changing.{Placed, Entry, with, write, clear, readBack, zeros, build, keeps, allKeep, accepted, own, cutOf, disjoint, among, change, Premises, Changed, Demand3}
-use Rattle.demands.proofs.Calls.{Taken, accepted-taken, bitsOf, write-done, clear-done}
+use Rattle.demands.specs.Changing.{Placed, Entry, with, write, clear, readBack, zeros, build, keeps, accepted, own, cutOf, among, change, Premises, Demand3}
+use Rattle.demands.proofs.Calls.{Taken, accepted-taken, write-done, clear-done}
 use Rattle.demands.proofs.Owners.{refusing, refusing-cons, none-refusing, owners, owners-cons, one-owner}
 use Rattle.demands.proofs.ReadBack.{reads-back}
-use Rattle.demands.proofs.Building.{landsAt, lands-none, next, length-next, bytes-next, bits-next, builtOn, build-on, all-keep, length-builtOn, bytes-builtOn, landing, bits-builtOn}
+use Rattle.demands.proofs.Building.{landsAt, lands-none, next, length-next, bytes-next, bits-next, builtOn, build-on, all-keep, length-builtOn, bytes-builtOn, landing, long-zero, bytes-zero, bits-on-zeros}
 
 -- a list around one element
 around : (w : Entry → ℕ) (before after : List Entry) (e : Entry) → total w (before ++ (e ∷ after)) ≡ total w before + (w e + total w after)
@@ -62,22 +62,6 @@ module _ (n : ℕ) (before after : List Entry) (f : Placed) (v v′ : List ℕ) 
   none″ : refusing n l″ ≡ 0
   none″ = sym (total-permuted (λ (e : Entry). cond (accepted n (e .field)) 0 1) (p .other-order)) ∙ none-new
 
-  -- n zero bytes
-  long-zero : length (replicate {A = ℕ} n 0) ≡ n
-  long-zero = length-replicate n 0
-
-  bytes-zero : Bytes (replicate n 0)
-  bytes-zero j =
-      ⊎-elim (λ (l : j < n). rw (getD-replicate {A = ℕ} n j 0 0 l) (omega arith))
-      (λ (l : n ≤ j). rw (List·getD-eq-default {A = ℕ} (replicate n 0) 0 {n = j} (rw long-zero l)) (omega arith)) (below j n)
-
-  -- a list in any order that has the same fields: at each bit what lands there
-  bits-of : (l : List Entry) → refusing n l ≡ 0 → (k : ℕ) → k < 8 * n → owners n k l ≤ 1 → bitAt (builtOn l (replicate n 0)) k ≡ landing n (p .small) k l
-  bits-of l r k h one =
-      let zero = bitAt-zeros n k h in
-      let whole = bits-builtOn n (p .small) l (replicate n 0) r long-zero k h one (λ (g : 1 ≤ owners n k l). zero) in
-      omega (arith, zero, whole)
-
   -- ---- built, cleared and written
 
   t : Taken n f
@@ -89,10 +73,10 @@ module _ (n : ℕ) (before after : List Entry) (f : Placed) (v v′ : List ℕ) 
   B = builtOn l′ (replicate n 0)
 
   long-B : length B ≡ n
-  long-B = length-builtOn n (p .small) l′ (replicate n 0) none′ long-zero
+  long-B = length-builtOn n (p .small) l′ (replicate n 0) none′ (long-zero n)
 
   is-built : build l′ (zeros n) ≡ payloadOf B n
-  is-built = build-on n (p .small) l′ (replicate n 0) none′ long-zero
+  is-built = build-on n (p .small) l′ (replicate n 0) none′ (long-zero n)
 
   inside-B : Inside (cutOf f) (length B)
   inside-B = rw long-B (t .inside)
@@ -127,10 +111,10 @@ module _ (n : ℕ) (before after : List Entry) (f : Placed) (v v′ : List ℕ) 
   owners″ k h = rw (sym (total-permuted (λ (e : Entry). cond (own n (e .field) k) 1 0) (p .other-order)), owners-new k) (owners-old k h)
 
   bits-B : (k : ℕ) → k < 8 * n → bitAt B k ≡ landing n (p .small) k olds
-  bits-B k h = bits-of l′ none′ k h (owners′ k h) ∙ sym (total-permuted (λ (e : Entry). landsAt n e k) (p .one-order))
+  bits-B k h = bits-on-zeros n (p .small) l′ none′ k h (owners′ k h) ∙ sym (total-permuted (λ (e : Entry). landsAt n e k) (p .one-order))
 
   bits-anew : (k : ℕ) → k < 8 * n → bitAt (builtOn l″ (replicate n 0)) k ≡ landing n (p .small) k news
-  bits-anew k h = bits-of l″ none″ k h (owners″ k h) ∙ sym (total-permuted (λ (e : Entry). landsAt n e k) (p .other-order))
+  bits-anew k h = bits-on-zeros n (p .small) l″ none″ k h (owners″ k h) ∙ sym (total-permuted (λ (e : Entry). landsAt n e k) (p .other-order))
 
   -- a clear and a write: an owned bit is the new value's, and the others stay
   over-clear : (o : Bool) (mask : Mask) (x s : ℕ) → cond o (landed mask (cond o 0 x) s) (cond o 0 x) ≡ cond o s x
@@ -169,9 +153,9 @@ module _ (n : ℕ) (before after : List Entry) (f : Placed) (v v′ : List ℕ) 
 
   same-bytes : C ≡ builtOn l″ (replicate n 0)
   same-bytes =
-      ext-bits C (builtOn l″ (replicate n 0)) (bytes-next n f v′ t D long-D (bytes-clearedIn (cutOf f) B inside-B (bytes-builtOn n (p .small) l′ (replicate n 0) none′ long-zero bytes-zero)))
-      (bytes-builtOn n (p .small) l″ (replicate n 0) none″ long-zero bytes-zero)
-      (long-C ∙ sym (length-builtOn n (p .small) l″ (replicate n 0) none″ long-zero))
+      ext-bits C (builtOn l″ (replicate n 0)) (bytes-next n f v′ t D long-D (bytes-clearedIn (cutOf f) B inside-B (bytes-builtOn n (p .small) l′ (replicate n 0) none′ (long-zero n) (bytes-zero n))))
+      (bytes-builtOn n (p .small) l″ (replicate n 0) none″ (long-zero n) (bytes-zero n))
+      (long-C ∙ sym (length-builtOn n (p .small) l″ (replicate n 0) none″ (long-zero n)))
       (λ k h. same-bits k (rw long-C at h))
 
   -- ---- (c)
@@ -184,7 +168,7 @@ module _ (n : ℕ) (before after : List Entry) (f : Placed) (v v′ : List ℕ) 
 pub demand-3 : Demand3
 demand-3 n before after f v v′ l′ l″ p =
     let changes = is-changed n before after f v v′ l′ l″ p in
-    let zero = long-zero n before after f v v′ l′ l″ p in
+    let zero = long-zero n in
     let one = none′ n before after f v v′ l′ l″ p in
     let other = none″ n before after f v v′ l′ l″ p in
     record {

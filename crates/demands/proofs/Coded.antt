@@ -1,5 +1,5 @@
 -- The calls that demand 3 speaks of are those of coded types, where nothing is refused before their own rules. Assumes nothing.
-use mathlib.Core.Path.{_≡_, refl, ap, _∙_}
+use mathlib.Core.Path.{_≡_, ap, _∙_}
 use mathlib.Core.List.{List}
 use Prim.Native.Nat.{ℕ}
 use lib.ListN.{length}

@@ -2,7 +2,7 @@
 -- computes. Assumes nothing.
 use mathlib.Core.Path.{_≡_, refl}
 use mathlib.Core.Bool.{Bool, true, cond}
-use mathlib.Core.List.{List, [], _∷_, _++_, List·Permᴰ·cons, List·Permᴰ·swap, Permᴰ·refl}
+use mathlib.Core.List.{List, [], _∷_, _++_, List·Permᴰ·swap, Permᴰ·refl}
 use Prim.Native.Nat.{ℕ}
 use native.Mathlib.Omega.{arith}
 use lib.ListN.{length, replicate}
@@ -26,7 +26,7 @@ use Rattle.unpack.specs.Answers.{Decoded, answer}
 use Rattle.unpack.specs.Unpacked.{unpacked}
 use Rattle.readers.specs.Finding.{fieldFinding}
 use Rattle.ownership.specs.Ownership.{footprint, owns}
-use Rattle.demands.specs.Changing.{Placed, Entry, with, readBack, zeros, build, allKeep, allAccepted, cutOf, apartBelow, apartFrom, disjoint, wholeOrShort, insideBytes, unmasked, change, Changed}
+use Rattle.demands.specs.Changing.{Placed, Entry, with, readBack, zeros, build, allAccepted, cutOf, apartBelow, apartFrom, disjoint, wholeOrShort, insideBytes, unmasked, change, Changed}
 use Rattle.demands.proofs.Changed.{demand-3}
 
 -- fields of so many bits at a byte and a bit position

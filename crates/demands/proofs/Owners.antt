@@ -1,13 +1,13 @@
 -- Lists of fields that are accepted and own no bit in common, counted: a count does not depend on the order of the list. Assumes nothing.
-use mathlib.Core.Path.{_≡_, refl, sym, ap, _∙_}
+use mathlib.Core.Path.{_≡_, refl, sym}
 use mathlib.Core.Logic.{⊎-elim}
-use mathlib.Core.Bool.{Bool, true, false, cond, not, _&&_, true≢false}
-use mathlib.Core.List.{List, [], _∷_, _++_}
+use mathlib.Core.Bool.{Bool, true, false, cond, not, _&&_}
+use mathlib.Core.List.{List, [], _∷_}
 use Prim.Native.Nat.{ℕ, zero, suc, _+_, _*_, _≤_, _<_}
 use native.Mathlib.Omega.{arith}
 use Rattle.kinds.proofs.Compare.{same}
-use Rattle.ownership.proofs.Permutations.{total, total-append}
-use Rattle.demands.specs.Changing.{Placed, Entry, with, accepted, allAccepted, own, apartBelow, apart, apartFrom, disjoint}
+use Rattle.ownership.proofs.Permutations.{total}
+use Rattle.demands.specs.Changing.{Placed, Entry, accepted, allAccepted, own, apartBelow, apart, apartFrom, disjoint}
 use Rattle.demands.proofs.Calls.{both}
 
 -- how many fields of a list are not accepted

@@ -1,13 +1,13 @@
 -- A value that fits its field is read back as it is. Assumes nothing.
 use mathlib.Core.Path.{_≡_, refl, sym, ap, ap₂, _∙_}
 use mathlib.Core.Logic.{⊎-elim}
-use mathlib.Core.Bool.{Bool, true, false, cond, not, _&&_, _||_, true≢false}
+use mathlib.Core.Bool.{Bool, true, false, _||_, true≢false}
 use mathlib.Core.List.{List, _++_}
-use Prim.Native.Nat.{ℕ, _+_, _-_, _*_, _/_, _%_, _≤_, _<_}
+use Prim.Native.Nat.{ℕ, _+_, _-_, _*_, _%_, _≤_, _<_}
 use native.Mathlib.Omega.{arith}
-use lib.ListN.{length, drop, replicate}
-use lib.Dec.{eqb, ltb, leb}
-use borrow.Author.Tests.{ltb-true, leb-true, lt-leb, le-ltb, ne-eqb}
+use lib.ListN.{length, drop}
+use lib.Dec.{eqb, ltb}
+use borrow.Author.Tests.{leb-true, lt-leb, le-ltb, ne-eqb}
 use Rattle.kinds.specs.declared.types.DataType.{DataType}
 use Rattle.kinds.specs.declared.types.ByteOrder.{ByteOrder}
 use Rattle.kinds.specs.Types.{isByteType, bytesFor}
@@ -20,19 +20,15 @@ use Rattle.order.specs.Order.{ordered}
 use Rattle.bits.specs.Bits.{bitAt, packed}
 use Rattle.bits.specs.Moves.{first, from, extracted}
 use Rattle.bits.proofs.Bytes.{packed-ext, repack}
-use Rattle.bits.proofs.Moves.{first-in, first-out, length-extracted}
+use Rattle.bits.proofs.Moves.{first-in, first-out}
 use Rattle.masks.specs.Mask.{Mask, noMask, plainMask, condensedMask}
-use Rattle.pack.specs.Source.{aligned, trimmed, standardBits, lastBytes}
+use Rattle.pack.specs.Source.{aligned, trimmed, standardBits}
 use Rattle.payload.specs.Writing.{cutBytes}
-use Rattle.unpack.specs.Answers.{Finding, Decoded, answer}
 use Rattle.unpack.specs.Unpacked.{unpacked}
 use Rattle.unpack.proofs.Answers.{has-room}
 use Rattle.readers.specs.Finding.{fieldFinding}
 use Rattle.decode.specs.Decode.{finding, decodeOf}
-use Rattle.lengths.specs.Refusals.{standardRefusal}
-use Rattle.ownership.specs.Ownership.{Cut}
 use Rattle.ownership.specs.Changes.{writtenIn, clearedIn}
-use Rattle.ownership.proofs.Laid.{Inside}
 use Rattle.ownership.proofs.ReadBack.{stands}
 use Rattle.demands.specs.Changing.{Placed, fieldOf, cutOf, wholeOrShort, insideBytes, unmasked, Exact}
 use Rattle.demands.proofs.Calls.{Taken, bitsOf, writable}

@@ -9,7 +9,7 @@ use Rattle.bits.specs.Bits.{bitAt}
 use Rattle.bits.proofs.Bytes.{Bytes}
 use Rattle.payload.specs.Writing.{cutBytes}
 use Rattle.cutout.specs.CutOut.{cleared}
-use Rattle.ownership.specs.Ownership.{Cut, ownedAt, footprint, owns}
+use Rattle.ownership.specs.Ownership.{Cut, ownedAt, owns}
 use Rattle.ownership.specs.Changes.{clearedIn, afterClear}
 use Rattle.ownership.proofs.Places.{length-inCutOut, bytes-inCutOut}
 use Rattle.ownership.proofs.Laid.{Inside, holds, standsAt, bitAt-inCut}

@@ -1,11 +1,10 @@
 -- Bits that are laid into zero bytes through a cut-out: each stands at its place in the payload. Assumes nothing.
-use mathlib.Core.Path.{_≡_, refl, sym, ap, _∙_}
-use mathlib.Core.Bool.{Bool, true, false, cond}
+use mathlib.Core.Path.{_≡_, refl, _∙_}
+use mathlib.Core.Bool.{Bool, cond}
 use mathlib.Core.List.{List}
-use Prim.Native.Nat.{ℕ, _+_, _-_, _*_, _%_, _≤_, _<_}
-use native.Mathlib.Omega.{arith}
+use Prim.Native.Nat.{ℕ, _+_, _*_, _%_, _≤_, _<_}
 use lib.ListN.{length, replicate, length-replicate}
-use Rattle.bits.specs.Bits.{bit, bitAt, packed}
+use Rattle.bits.specs.Bits.{bitAt, packed}
 use Rattle.bits.proofs.Numbers.{Bits, bit-of-zero}
 use Rattle.bits.proofs.Runs.{bitAt-replicate}
 use Rattle.payload.specs.Writing.{cutBytes}

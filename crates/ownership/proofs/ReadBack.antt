@@ -1,25 +1,23 @@
 -- What is written after a clear stands in the ordered cut-out: each owned bit is the source's, masked or not. Assumes nothing.
-use mathlib.Core.Path.{_≡_, refl, sym, ap, _∙_}
+use mathlib.Core.Path.{_≡_, ap, _∙_}
 use mathlib.Core.List.{List, _++_}
-use Prim.Native.Nat.{ℕ, _+_, _-_, _*_, _≤_, _<_}
+use Prim.Native.Nat.{ℕ, _+_, _-_, _≤_, _<_}
 use native.Mathlib.Omega.{arith}
-use lib.ListN.{length, take, drop, length-take, length-drop}
+use lib.ListN.{length, take, drop, length-drop}
 use lib.Seq.{length-take-le, take-at, drop-at}
-use borrow.Author.Tests.{eq-eqb}
 use Rattle.kinds.specs.declared.types.ByteOrder.{ByteOrder}
 use Rattle.kinds.specs.Slices.{cut}
 use Rattle.order.specs.Order.{ordered}
 use Rattle.order.proofs.Index.{length-ordered, ordered-ordered}
 use Rattle.bits.specs.Bits.{bitAt}
-use Rattle.bits.specs.Moves.{first, raised, within}
+use Rattle.bits.specs.Moves.{first}
 use Rattle.bits.proofs.Moves.{first-in, raised-in, within-in}
 use Rattle.cutout.specs.CutOut.{ownedBit, cleared, put}
 use Rattle.payload.specs.Writing.{spliced, inCutOut, cutBytes}
 use Rattle.ownership.specs.Ownership.{Cut, ownedAt}
 use Rattle.ownership.specs.Changes.{sourceFor, writtenIn, clearedIn, sourceAt}
-use Rattle.ownership.proofs.Places.{Pointwise}
 use Rattle.ownership.proofs.Laid.{Inside}
-use Rattle.ownership.proofs.Writes.{Writable, clearsTo, putsTo, landed-zero, pointwise-cleared, pointwise-put}
+use Rattle.ownership.proofs.Writes.{Writable, landed-zero, pointwise-cleared, pointwise-put}
 use Rattle.ownership.proofs.Clears.{length-clearedIn}
 
 -- the ordered cut-out after a change is the changed one

@@ -1,8 +1,8 @@
 -- What a Standard field writes is bits, and zero under mask zeros. Assumes nothing.
-use mathlib.Core.Path.{_≡_, refl, sym, ap, _∙_}
-use mathlib.Core.Bool.{Bool, cond, not, _&&_}
+use mathlib.Core.Path.{_≡_, _∙_}
+use mathlib.Core.Bool.{not, _&&_}
 use mathlib.Core.List.{List}
-use Prim.Native.Nat.{ℕ, _*_, _/_, _%_, _<_}
+use Prim.Native.Nat.{ℕ, _*_, _%_, _<_}
 use native.Mathlib.Omega.{arith}
 use lib.ListN.{length}
 use lib.Dec.{eqb, ltb, leb}
@@ -16,7 +16,7 @@ use Rattle.masks.specs.Mask.{Mask, noMask, plainMask, condensedMask}
 use Rattle.masks.specs.Plain.{maskBit}
 use Rattle.condensed.specs.Condensed.{replaced}
 use Rattle.condensed.proofs.Replaced.{bits-replaced}
-use Rattle.pack.specs.Source.{aligned, trimmed, standardBits, standardBitsUnder, sizeUnder}
+use Rattle.pack.specs.Source.{aligned, standardBits, standardBitsUnder, sizeUnder}
 use Rattle.cutout.specs.CutOut.{ownedBit}
 use Rattle.ownership.specs.Ownership.{Cut}
 use Rattle.ownership.proofs.Writes.{Writable}

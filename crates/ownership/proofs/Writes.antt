@@ -1,16 +1,16 @@
 -- The write law: what a write makes of each bit of a payload. Assumes nothing.
-use mathlib.Core.Path.{_≡_, refl, sym, ap, _∙_}
+use mathlib.Core.Path.{_≡_, refl, _∙_}
 use mathlib.Core.Logic.{⊎-elim}
-use mathlib.Core.Bool.{Bool, true, false, cond, _&&_}
+use mathlib.Core.Bool.{Bool, true, false, cond}
 use mathlib.Core.List.{List}
 use Prim.Native.Nat.{ℕ, zero, suc, _+_, _-_, _*_, _≤_, _<_, min, max}
 use native.Mathlib.Omega.{arith}
 use lib.ListN.{length}
-use lib.Dec.{eqb, ltb, leb}
-use borrow.Author.Tests.{lt-ltb, le-ltb, le-leb, lt-leb}
+use lib.Dec.{eqb}
+use borrow.Author.Tests.{lt-ltb, le-leb}
 use Rattle.kinds.proofs.Compare.{below}
-use Rattle.bits.specs.Bits.{bitAt, packed}
-use Rattle.bits.specs.Moves.{first, raised, either, injected, within, overlaid}
+use Rattle.bits.specs.Bits.{bitAt}
+use Rattle.bits.specs.Moves.{first, either, injected, within, overlaid}
 use Rattle.bits.proofs.Numbers.{Bits}
 use Rattle.bits.proofs.Bytes.{Bytes, bitAt-lt}
 use Rattle.bits.proofs.Moves.{bits-cond, bits-first, bits-raised, bits-either, first-in, first-out, raised-out}
