@@ -3,18 +3,20 @@
 use mathlib.Core.Path.{_≡_, refl}
 use mathlib.Core.Bool.{Bool, true, cond}
 use mathlib.Core.List.{List, [], _∷_, _++_, List·Permᴰ·swap, Permᴰ·refl}
-use Prim.Native.Nat.{ℕ}
+use Prim.Native.Nat.{ℕ, zero, suc, _≤_, _<_}
 use native.Mathlib.Omega.{arith}
-use lib.ListN.{length, replicate}
+use lib.ListN.{length, getD, drop, replicate}
 use lib.Dec.{eqb}
 use Rattle.kinds.proofs.Examples.{Example, equal, hold, _is_}
 use Rattle.kinds.specs.Types.{bytesFor}
 use Rattle.kinds.specs.declared.types.DataType.{DataType}
 use Rattle.kinds.specs.declared.types.DataType.the-variants.{Int32, UInt32, Float32, ByteField}
 use Rattle.kinds.specs.declared.types.ByteOrder.the-variants.{Keep, Reverse}
+use Rattle.kinds.specs.Answers.{read}
 use Rattle.order.specs.Order.{ordered}
 use Rattle.bits.specs.Bits.{bit, bitAt, number, packed}
 use Rattle.bits.specs.Moves.{first, extracted, injected, overlaid}
+use Rattle.bits.proofs.Bytes.{bitAt-out}
 use Rattle.masks.specs.Mask.{Mask, noMask, plainMask, condensedMask}
 use Rattle.masks.specs.Plain.{maskBit}
 use Rattle.condensed.specs.Condensed.{frontBit, onesBelow, gathered, onesOf, condensed, replacement, replaced}
@@ -168,3 +170,16 @@ unfolding ordered bit bitAt number packed injected overlaid standardBits cleared
 two-across =
     demand-3 2 [] across (low 8 0 4) (0xAB ∷ []) (0x5A ∷ []) (with (low 8 0 4) (0xAB ∷ []) ∷ across) (with (high 8 0 4) (0xCD ∷ []) ∷ with (low 8 0 4) (0x5A ∷ []) ∷ [])
     (record { small = omega arith; taken = refl; owned-once = refl; one-order = Permᴰ·refl _; other-order = List·Permᴰ·swap refl refl })
+
+-- and those of the read-back: a field of one byte, alone
+small-bytes : (j : ℕ) → getD (0xA5 ∷ []) j 0 < 256
+small-bytes zero = omega arith
+small-bytes (suc j) = omega arith
+
+alone : (output : List ℕ) → 1 ≤ length output
+    → readBack (high 8 0 0) (change (high 8 0 0) (0xA5 ∷ []) (build (with (high 8 0 0) [] ∷ []) (zeros 1)) .payload) output ≡ record { report = read 8 1; output = 0xA5 ∷ drop 1 output }
+unfolding ordered bit bitAt number packed injected overlaid standardBits cleared readied spliced inCutOut grown writing footprint owns build allAccepted apartBelow apartFrom disjoint
+alone output room =
+    demand-3 1 [] [] (high 8 0 0) [] (0xA5 ∷ []) (with (high 8 0 0) [] ∷ []) (with (high 8 0 0) (0xA5 ∷ []) ∷ [])
+    (record { small = omega arith; taken = refl; owned-once = refl; one-order = Permᴰ·refl _; other-order = Permᴰ·refl _ })
+    .d refl refl refl (record { fills = refl; bytes = small-bytes; fits = λ i l. bitAt-out (0xA5 ∷ []) i (omega arith) }) output room
