@@ -3,7 +3,7 @@ use mathlib.Core.Path.{_≡_, refl, sym, ap, _∙_}
 use mathlib.Core.Logic.{⊎-elim}
 use mathlib.Core.Bool.{Bool, true, false, cond, _&&_}
 use mathlib.Core.List.{List, [], _∷_, List·Permᴰ}
-use Prim.Native.Nat.{ℕ, _+_, _*_, _≤_, _<_}
+use Prim.Native.Nat.{ℕ, _+_, _*_, _≤_, _<_, max}
 use native.Mathlib.Omega.{arith}
 use lib.ListN.{length, replicate, length-replicate, getD-replicate, List·getD-eq-default}
 use borrow.Author.Tests.{eq-eqb}
@@ -13,11 +13,11 @@ use Rattle.bits.proofs.Bytes.{Bytes, ext-bits}
 use Rattle.masks.specs.Mask.{Mask}
 use Rattle.pack.specs.Source.{counted}
 use Rattle.payload.specs.Answers.{Encoded, payloadOf}
-use Rattle.ownership.specs.Changes.{writtenIn, imprint, landed}
+use Rattle.ownership.specs.Effects.{writtenIn, imprint, left}
 use Rattle.ownership.proofs.Laid.{Inside, bitAt-zeros}
-use Rattle.ownership.proofs.Writes.{landed-zero, imprint-none, length-writtenIn, bytes-writtenIn, write-law}
+use Rattle.ownership.proofs.Writes.{left-zero, imprint-none, length-writtenIn, bytes-writtenIn, write-law}
 use Rattle.ownership.proofs.Permutations.{total, total-permuted}
-use Rattle.demands.specs.Changing.{Placed, Entry, with, zeros, build, keeps, allKeep, accepted, own, cutOf, allAccepted, disjoint}
+use Rattle.demands.specs.Changing.{Placed, Entry, with, zeros, build, succeeds, allSucceed, accepted, own, cutOf, allAccepted, disjoint}
 use Rattle.demands.proofs.Calls.{Taken, accepted-taken, bitsOf, writable, write-done}
 use Rattle.demands.proofs.Owners.{refusing, refusing-cons, none-refusing, owners, one-owner}
 
@@ -40,17 +40,21 @@ module _ (n : ℕ) (f : Placed) (v : List ℕ) (t : Taken n f) where
     inside-xs = rw long (t .inside)
 
     pub length-next : length next ≡ n
-    length-next = length-writtenIn (cutOf f) (bitsOf f v) (writable f v) xs inside-xs ∙ long
+    length-next = length-writtenIn (cutOf f) (bitsOf f v) (writable f v .zero-one) xs inside-xs ∙ long
 
     pub bytes-next : Bytes xs → Bytes next
-    bytes-next = bytes-writtenIn (cutOf f) (bitsOf f v) (writable f v) xs inside-xs
+    bytes-next = bytes-writtenIn (cutOf f) (bitsOf f v) (writable f v .zero-one) xs inside-xs
 
-    pub bits-next : (k : ℕ) → k < 8 * n → bitAt next k ≡ cond (own n f k) (landed (counted (f .mask)) (bitAt xs k) (landsAt n (with f v) k)) (bitAt xs k)
+    pub bits-next : (k : ℕ) → k < 8 * n → bitAt next k ≡ max (cond (own n f k) (left (counted (f .mask)) (bitAt xs k)) (bitAt xs k)) (landsAt n (with f v) k)
     bits-next k l =
         rw long at
-        (write-law (cutOf f) (bitsOf f v) (writable f v) xs inside-xs k (rw long l))
+        (write-law (cutOf f) (bitsOf f v) (writable f v .zero-one) xs inside-xs k (rw long l))
 
 -- ---- one after the other
+
+-- what lands at k, of all fields
+abbrev pub landing : ℕ → ℕ → List Entry → ℕ
+landing n k l = total (λ (e : Entry). landsAt n e k) l
 
 unfoldable pub builtOn : List Entry → List ℕ → List ℕ
 builtOn [] xs = xs
@@ -66,17 +70,17 @@ module _ (n : ℕ) (small : n ≤ 65535) where
   build-on (e ∷ l) xs r long =
       let h = refusing-cons n e l r in
       let t = taken e (h .0) in
-      ap (λ (a : Encoded). build l (a .payload)) (write-done n (e .field) small t xs long (e .value))
+      ap (λ (a : Encoded). build l (a .payload)) (write-done n (e .field) t xs long (e .value))
       ∙ build-on l (next n (e .field) (e .value) t xs long) (h .1) (length-next n (e .field) (e .value) t xs long)
 
-  pub all-keep : (l : List Entry) (xs : List ℕ) → refusing n l ≡ 0 → length xs ≡ n → allKeep n l (payloadOf xs n) ≡ true
-  unfolding allKeep
-  all-keep [] xs r long = refl
-  all-keep (e ∷ l) xs r long =
+  pub all-succeed : (l : List Entry) (xs : List ℕ) → refusing n l ≡ 0 → length xs ≡ n → allSucceed n l (payloadOf xs n) ≡ true
+  unfolding allSucceed
+  all-succeed [] xs r long = refl
+  all-succeed (e ∷ l) xs r long =
       let h = refusing-cons n e l r in
       let t = taken e (h .0) in
-      ap (λ (a : Encoded). keeps n a && allKeep n l (a .payload)) (write-done n (e .field) small t xs long (e .value))
-      ∙ rw (eq-eqb n n refl) (all-keep l (next n (e .field) (e .value) t xs long) (h .1) (length-next n (e .field) (e .value) t xs long))
+      ap (λ (a : Encoded). succeeds n a && allSucceed n l (a .payload)) (write-done n (e .field) t xs long (e .value))
+      ∙ rw (eq-eqb n n refl) (all-succeed l (next n (e .field) (e .value) t xs long) (h .1) (length-next n (e .field) (e .value) t xs long))
 
   pub length-builtOn : (l : List Entry) (xs : List ℕ) → refusing n l ≡ 0 → length xs ≡ n → length (builtOn l xs) ≡ n
   unfolding builtOn
@@ -94,20 +98,18 @@ module _ (n : ℕ) (small : n ≤ 65535) where
       let t = taken e (h .0) in
       bytes-builtOn l (next n (e .field) (e .value) t xs long) (h .1) (length-next n (e .field) (e .value) t xs long) (bytes-next n (e .field) (e .value) t xs long b)
 
-  -- what lands at k, of all fields
-  abbrev pub landing : ℕ → List Entry → ℕ
-  landing k l = total (λ (e : Entry). landsAt n e k) l
-
   -- o: the field owns the bit x; s: what its value has there; m: how many others own it
   step : (o : Bool) (mask : Mask) (x s m : ℕ) → (o ≡ false → s ≡ 0) → cond o 1 0 + m ≤ 1 → (1 ≤ cond o 1 0 + m → x ≡ 0)
-      → (cond o (landed mask x s) x ≡ x + s) × ((1 ≤ m → cond o (landed mask x s) x ≡ 0) × (m ≤ 1))
+      → (max (cond o (left mask x) x) s ≡ x + s) × ((1 ≤ m → max (cond o (left mask x) x) s ≡ 0) × (m ≤ 1))
   step true mask x s m none one fresh =
       let zero : x ≡ 0 = fresh (omega arith) in
-      (rw zero (landed-zero mask s ∙ omega arith), (λ (h : 1 ≤ m). absurd (omega arith), omega arith))
-  step false mask x s m none one fresh = let z = none refl in (omega arith, (λ (h : 1 ≤ m). fresh (omega arith), omega arith))
+      (rw (zero, left-zero mask) (omega arith), (λ (h : 1 ≤ m). absurd (omega arith), omega arith))
+  step false mask x s m none one fresh =
+      let z = none refl in
+      (omega arith, (λ (h : 1 ≤ m). let y = fresh (omega arith) in omega arith, omega arith))
 
   pub bits-builtOn : (l : List Entry) (xs : List ℕ) → refusing n l ≡ 0 → length xs ≡ n → (k : ℕ) → k < 8 * n
-      → owners n k l ≤ 1 → (1 ≤ owners n k l → bitAt xs k ≡ 0) → bitAt (builtOn l xs) k ≡ bitAt xs k + landing k l
+      → owners n k l ≤ 1 → (1 ≤ owners n k l → bitAt xs k ≡ 0) → bitAt (builtOn l xs) k ≡ bitAt xs k + landing n k l
   unfolding builtOn
   bits-builtOn [] xs r long k h one fresh = omega arith
   bits-builtOn (e ∷ l) xs r long k h one fresh =
@@ -116,7 +118,7 @@ module _ (n : ℕ) (small : n ≤ 65535) where
       let ys = next n (e .field) (e .value) t xs long in
       let now = bits-next n (e .field) (e .value) t xs long k h in
       let s = step (own n (e .field) k) (counted (e .field .mask)) (bitAt xs k) (landsAt n e k) (owners n k l) (lands-none n (e .field) (e .value) t k h) one fresh in
-      let rest : bitAt (builtOn l ys) k ≡ bitAt ys k + landing k l =
+      let rest : bitAt (builtOn l ys) k ≡ bitAt ys k + landing n k l =
       bits-builtOn l ys (a .1) (length-next n (e .field) (e .value) t xs long) k h (s .1 .1) (λ (g : 1 ≤ owners n k l). now ∙ s .1 .0 g) in
       let here : bitAt ys k ≡ bitAt xs k + landsAt n e k = now ∙ s .0 in
       omega (arith, rest, here)
@@ -133,7 +135,7 @@ bytes-zero n j =
 
 module _ (n : ℕ) (small : n ≤ 65535) where
   -- each bit is what lands there
-  pub bits-on-zeros : (l : List Entry) → refusing n l ≡ 0 → (k : ℕ) → k < 8 * n → owners n k l ≤ 1 → bitAt (builtOn l (replicate n 0)) k ≡ landing n small k l
+  pub bits-on-zeros : (l : List Entry) → refusing n l ≡ 0 → (k : ℕ) → k < 8 * n → owners n k l ≤ 1 → bitAt (builtOn l (replicate n 0)) k ≡ landing n k l
   bits-on-zeros l r k h one =
       let zero = bitAt-zeros n k h in
       let whole = bits-builtOn n small l (replicate n 0) r (long-zero n) k h one (λ (g : 1 ≤ owners n k l). zero) in

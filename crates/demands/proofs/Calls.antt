@@ -19,11 +19,11 @@ use Rattle.payload.proofs.Ways.{after-none, write-all}
 use Rattle.payload.proofs.Written.{grown-none}
 use Rattle.cutout.specs.CutOut.{put}
 use Rattle.lengths.specs.Refusals.{standardRefusal}
-use Rattle.ownership.specs.Changes.{writtenIn, clearedIn}
+use Rattle.ownership.specs.Effects.{writtenIn, clearedIn}
 use Rattle.ownership.proofs.Laid.{Inside}
 use Rattle.ownership.proofs.Writes.{Writable}
 use Rattle.ownership.proofs.Sources.{standard-writable}
-use Rattle.demands.specs.Changing.{Placed, with, write, clear, zeros, keeps, accepted, cutOf}
+use Rattle.demands.specs.Changing.{Placed, with, write, clear, zeros, succeeds, accepted, cutOf}
 
 -- ---- what an acceptance tells
 
@@ -59,8 +59,8 @@ unfolding writing
 accepted-taken n f small e =
     let len = length-replicate {A = ℕ} n 0 in
     let size : ℕ = sizeUnder (counted (f .mask)) (f .len) in
-    let numeric : isByteType (f .type) ≡ false = is-false (isByteType (f .type)) (both (isNumeric (f .type)) (keeps n (write (with f []) (zeros n))) e .0) in
-    let kept = both (eqb (write (with f []) (zeros n) .report .number) 0) _ (both (isNumeric (f .type)) (keeps n (write (with f []) (zeros n))) e .1) .0 in
+    let numeric : isByteType (f .type) ≡ false = is-false (isByteType (f .type)) (both (isNumeric (f .type)) (succeeds n (write (with f []) (zeros n))) e .0) in
+    let kept = both (eqb (write (with f []) (zeros n) .report .number) 0) _ (both (isNumeric (f .type)) (succeeds n (write (with f []) (zeros n))) e .1) .0 in
     let own = none-before (bitPositionRefusal (f .type) (f .pos)) (zeros n) _ kept .1 in
     let length-ok = none-before (standardRefusal (f .type) (f .len) (f .mask)) (zeros n) _ own in
     let placed = none-refused size (zeros n) (f .at) (f .pos) (none-before (writeRefusal size (zeros n) (f .at) (f .pos)) (zeros n) _ (length-ok .1) .0) in
@@ -75,7 +75,7 @@ bitsOf f v = standardBitsUnder (counted (f .mask)) (f .type) (f .len) v
 pub writable : (f : Placed) (v : List ℕ) → Writable (cutOf f) (bitsOf f v)
 writable f v = standard-writable (cutOf f) (f .type) (f .len) v refl
 
-module _ (n : ℕ) (f : Placed) (small : n ≤ 65535) (t : Taken n f) (xs : List ℕ) (long : length xs ≡ n) where
+module _ (n : ℕ) (f : Placed) (t : Taken n f) (xs : List ℕ) (long : length xs ≡ n) where
   abbrev size : ℕ
   size = sizeUnder (counted (f .mask)) (f .len)
 
@@ -101,14 +101,14 @@ module _ (n : ℕ) (f : Placed) (small : n ≤ 65535) (t : Taken n f) (xs : List
 
 -- ---- the value does not matter
 
-after-keeps : (n m : ℕ) (p : Payload) (e e′ : Encoded) → keeps n e ≡ keeps n e′ → keeps n (after m p e) ≡ keeps n (after m p e′)
-after-keeps n m p e e′ h = ⊎-elim (λ (z : m ≡ 0). rw z h) (λ (z : m ≡ 0 → ⊥). rw (ne-eqb m 0 z)) (same m 0)
+after-succeeds : (n m : ℕ) (p : Payload) (e e′ : Encoded) → succeeds n e ≡ succeeds n e′ → succeeds n (after m p e) ≡ succeeds n (after m p e′)
+after-succeeds n m p e e′ h = ⊎-elim (λ (z : m ≡ 0). rw z h) (λ (z : m ≡ 0 → ⊥). rw (ne-eqb m 0 z)) (same m 0)
 
 -- a field that is accepted with one value is accepted with every other
-pub value-free : (n : ℕ) (f : Placed) (v v′ : List ℕ) (p : Payload) → keeps n (write (with f v) p) ≡ keeps n (write (with f v′) p)
+pub value-free : (n : ℕ) (f : Placed) (v v′ : List ℕ) (p : Payload) → succeeds n (write (with f v) p) ≡ succeeds n (write (with f v′) p)
 unfolding writing
 value-free n f v v′ p =
     let source : List ℕ → Source = standardSource (f .type) (f .len) (counted (f .mask)) in
     let put-in : List ℕ → Encoded = λ w. writing (f .order) (source w) p (f .at) (f .pos) in
-    after-keeps n (bitPositionRefusal (f .type) (f .pos)) p _ _ (after-keeps n (standardRefusal (f .type) (f .len) (f .mask)) p (put-in v) (put-in v′)
-    (after-keeps n (writeRefusal (sizeUnder (counted (f .mask)) (f .len)) p (f .at) (f .pos)) p (done (written (f .order) (source v) p (f .at) (f .pos))) (done (written (f .order) (source v′) p (f .at) (f .pos))) refl))
+    after-succeeds n (bitPositionRefusal (f .type) (f .pos)) p _ _ (after-succeeds n (standardRefusal (f .type) (f .len) (f .mask)) p (put-in v) (put-in v′)
+    (after-succeeds n (writeRefusal (sizeUnder (counted (f .mask)) (f .len)) p (f .at) (f .pos)) p (done (written (f .order) (source v) p (f .at) (f .pos))) (done (written (f .order) (source v′) p (f .at) (f .pos))) refl))

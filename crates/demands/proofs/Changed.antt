@@ -3,7 +3,7 @@ use mathlib.Core.Path.{_≡_, refl, sym, ap, _∙_}
 use mathlib.Core.Logic.{⊎-elim}
 use mathlib.Core.Bool.{Bool, true, false, cond}
 use mathlib.Core.List.{List, [], _∷_, _++_}
-use Prim.Native.Nat.{ℕ, _+_, _*_, _≤_, _<_}
+use Prim.Native.Nat.{ℕ, _+_, _*_, _≤_, _<_, max}
 use native.Mathlib.Omega.{arith}
 use lib.ListN.{length, replicate}
 use borrow.Author.Tests.{eq-eqb}
@@ -13,23 +13,23 @@ use Rattle.bits.proofs.Bytes.{bitAt-out, ext-bits}
 use Rattle.masks.specs.Mask.{Mask}
 use Rattle.pack.specs.Source.{counted}
 use Rattle.payload.specs.Answers.{Payload, Encoded, done, payloadOf}
-use Rattle.ownership.specs.Changes.{clearedIn, landed}
+use Rattle.ownership.specs.Effects.{clearedIn, left}
 use Rattle.ownership.proofs.Laid.{Inside}
-use Rattle.ownership.proofs.Writes.{landed-zero}
+use Rattle.ownership.proofs.Writes.{left-zero}
 use Rattle.ownership.proofs.Clears.{length-clearedIn, bytes-clearedIn, clear-law}
 use Rattle.ownership.proofs.Permutations.{total, total-append, total-permuted}
-use Rattle.demands.specs.Changing.{Placed, Entry, with, write, clear, readBack, zeros, build, keeps, accepted, own, cutOf, among, change, Premises, Demand3}
+use Rattle.demands.specs.Changing.{Placed, Entry, with, write, clear, readBack, zeros, build, succeeds, accepted, own, cutOf, among, change, Premises, Demand3}
 use Rattle.demands.proofs.Calls.{Taken, accepted-taken, write-done, clear-done}
 use Rattle.demands.proofs.Owners.{refusing, refusing-cons, none-refusing, owners, owners-cons, one-owner}
 use Rattle.demands.proofs.ReadBack.{reads-back}
-use Rattle.demands.proofs.Building.{landsAt, lands-none, next, length-next, bytes-next, bits-next, builtOn, build-on, all-keep, length-builtOn, bytes-builtOn, landing, long-zero, bytes-zero, bits-on-zeros}
+use Rattle.demands.proofs.Building.{landsAt, lands-none, next, length-next, bytes-next, bits-next, builtOn, build-on, all-succeed, length-builtOn, bytes-builtOn, landing, long-zero, bytes-zero, bits-on-zeros}
 
 -- a list around one element
 around : (w : Entry → ℕ) (before after : List Entry) (e : Entry) → total w (before ++ (e ∷ after)) ≡ total w before + (w e + total w after)
 around w before after e = total-append w before (e ∷ after)
 
 -- what nobody owns, nothing lands at
-lands-nowhere : (n : ℕ) (small : n ≤ 65535) (l : List Entry) → refusing n l ≡ 0 → (k : ℕ) → k < 8 * n → owners n k l ≡ 0 → landing n small k l ≡ 0
+lands-nowhere : (n : ℕ) (small : n ≤ 65535) (l : List Entry) → refusing n l ≡ 0 → (k : ℕ) → k < 8 * n → owners n k l ≡ 0 → landing n k l ≡ 0
 lands-nowhere n small [] r k h e = refl
 lands-nowhere n small (x ∷ l) r k h e =
     let a = refusing-cons n x l r in
@@ -51,7 +51,7 @@ module _ (n : ℕ) (before after : List Entry) (f : Placed) (v v′ : List ℕ) 
   same-fields w = around (λ (e : Entry). w (e .field)) before after (with f v′) ∙ sym (around (λ (e : Entry). w (e .field)) before after (with f v))
 
   none-old : refusing n olds ≡ 0
-  none-old = none-refusing n olds (p .taken)
+  none-old = none-refusing n olds (p .all-accepted)
 
   none-new : refusing n news ≡ 0
   none-new = same-fields (λ g. cond (accepted n g) 0 1) ∙ none-old
@@ -88,18 +88,18 @@ module _ (n : ℕ) (before after : List Entry) (f : Placed) (v v′ : List ℕ) 
   long-D = length-clearedIn (cutOf f) B inside-B ∙ long-B
 
   is-cleared : clear f (build l′ (zeros n)) ≡ done (payloadOf D n)
-  is-cleared = ap (clear f) is-built ∙ clear-done n f (p .small) t B long-B
+  is-cleared = ap (clear f) is-built ∙ clear-done n f t B long-B
 
   abbrev C : List ℕ
   C = next n f v′ t D long-D
 
   is-changed : change f v′ (build l′ (zeros n)) ≡ done (payloadOf C n)
-  is-changed = ap (λ (e : Encoded). write (with f v′) (e .payload)) is-cleared ∙ write-done n f (p .small) t D long-D v′
+  is-changed = ap (λ (e : Encoded). write (with f v′) (e .payload)) is-cleared ∙ write-done n f t D long-D v′
 
   -- ---- (b)
 
   owners-old : (k : ℕ) → k < 8 * n → owners n k olds ≤ 1
-  owners-old k h = one-owner n olds k h (p .owned-once)
+  owners-old k h = one-owner n olds k h (p .own-disjoint)
 
   owners-new : (k : ℕ) → owners n k news ≡ owners n k olds
   owners-new k = same-fields (λ g. cond (own n g k) 1 0)
@@ -110,24 +110,24 @@ module _ (n : ℕ) (before after : List Entry) (f : Placed) (v v′ : List ℕ) 
   owners″ : (k : ℕ) → k < 8 * n → owners n k l″ ≤ 1
   owners″ k h = rw (sym (total-permuted (λ (e : Entry). cond (own n (e .field) k) 1 0) (p .other-order)), owners-new k) (owners-old k h)
 
-  bits-B : (k : ℕ) → k < 8 * n → bitAt B k ≡ landing n (p .small) k olds
+  bits-B : (k : ℕ) → k < 8 * n → bitAt B k ≡ landing n k olds
   bits-B k h = bits-on-zeros n (p .small) l′ none′ k h (owners′ k h) ∙ sym (total-permuted (λ (e : Entry). landsAt n e k) (p .one-order))
 
-  bits-anew : (k : ℕ) → k < 8 * n → bitAt (builtOn l″ (replicate n 0)) k ≡ landing n (p .small) k news
+  bits-anew : (k : ℕ) → k < 8 * n → bitAt (builtOn l″ (replicate n 0)) k ≡ landing n k news
   bits-anew k h = bits-on-zeros n (p .small) l″ none″ k h (owners″ k h) ∙ sym (total-permuted (λ (e : Entry). landsAt n e k) (p .other-order))
 
   -- a clear and a write: an owned bit is the new value's, and the others stay
-  over-clear : (o : Bool) (mask : Mask) (x s : ℕ) → cond o (landed mask (cond o 0 x) s) (cond o 0 x) ≡ cond o s x
-  over-clear true mask x s = landed-zero mask s
-  over-clear false mask x s = refl
+  over-clear : (o : Bool) (mask : Mask) (x s : ℕ) → (o ≡ false → s ≡ 0) → max (cond o (left mask (cond o 0 x)) (cond o 0 x)) s ≡ cond o s x
+  over-clear true mask x s e = rw (left-zero mask) (omega arith)
+  over-clear false mask x s e = omega (arith, e refl)
 
   bits-C : (k : ℕ) → k < 8 * n → bitAt C k ≡ cond (own n f k) (landsAt n (with f v′) k) (bitAt B k)
   bits-C k h =
       let was : bitAt D k ≡ cond (own n f k) 0 (bitAt B k) = rw long-B at (clear-law (cutOf f) B inside-B k (rw long-B h)) in
-      bits-next n f v′ t D long-D k h ∙ rw was (over-clear (own n f k) (counted (f .mask)) (bitAt B k) (landsAt n (with f v′) k))
+      bits-next n f v′ t D long-D k h ∙ rw was (over-clear (own n f k) (counted (f .mask)) (bitAt B k) (landsAt n (with f v′) k) (lands-none n f v′ t k h))
 
   -- the fields before and after own none of the field's bits, so nothing of theirs lands there
-  around-none : (k : ℕ) → k < 8 * n → own n f k ≡ true → (landing n (p .small) k before ≡ 0) × (landing n (p .small) k after ≡ 0)
+  around-none : (k : ℕ) → k < 8 * n → own n f k ≡ true → (landing n k before ≡ 0) × (landing n k after ≡ 0)
   around-none k h o =
       let refused = around (λ (e : Entry). cond (accepted n (e .field)) 0 1) before after (with f v) in
       let owned : owners n k olds ≡ owners n k before + (1 + owners n k after) = rw o at (around (λ (e : Entry). cond (own n (e .field) k) 1 0) before after (with f v)) in
@@ -145,7 +145,7 @@ module _ (n : ℕ) (before after : List Entry) (f : Placed) (v v′ : List ℕ) 
   same-bits k h =
       let w : Entry → ℕ = λ e. landsAt n e k in
       bits-C k h ∙ rw (bits-B k h ∙ around w before after (with f v), bits-anew k h ∙ around w before after (with f v′))
-      (replaced (own n f k) (landing n (p .small) k before) (landing n (p .small) k after) (landsAt n (with f v) k) (landsAt n (with f v′) k) (around-none k h)
+      (replaced (own n f k) (landing n k before) (landing n k after) (landsAt n (with f v) k) (landsAt n (with f v′) k) (around-none k h)
       (lands-none n f v t k h) (lands-none n f v′ t k h))
 
   long-C : length C ≡ n
@@ -172,10 +172,12 @@ demand-3 n before after f v v′ l′ l″ p =
     let one = none′ n before after f v v′ l′ l″ p in
     let other = none″ n before after f v v′ l′ l″ p in
     record {
-      a-built = all-keep n (p .small) l′ (replicate n 0) one zero;
-      a-cleared = ap (keeps n) (is-cleared n before after f v v′ l′ l″ p) ∙ eq-eqb n n refl;
-      a-changed = ap (keeps n) changes ∙ eq-eqb n n refl;
-      a-anew = all-keep n (p .small) l″ (replicate n 0) other zero;
+      a-built = all-succeed n (p .small) l′ (replicate n 0) one zero;
+      a-cleared = ap (succeeds n) (is-cleared n before after f v v′ l′ l″ p) ∙ eq-eqb n n refl;
+      a-changed = ap (succeeds n) changes ∙ eq-eqb n n refl;
+      a-anew = all-succeed n (p .small) l″ (replicate n 0) other zero;
+      a-size = ap (λ (q : Payload). length (q .bytes)) (is-built n before after f v v′ l′ l″ p) ∙ long-B n before after f v v′ l′ l″ p;
+      a-size-changed = ap (λ (e : Encoded). length (e .payload .bytes)) changes ∙ long-C n before after f v v′ l′ l″ p;
       b =
           ap (λ (e : Encoded). e .payload) changes ∙ ap (λ (ys : List ℕ). payloadOf ys n) (same-bytes n before after f v v′ l′ l″ p)
           ∙ sym (build-on n (p .small) l″ (replicate n 0) other zero);
@@ -184,6 +186,6 @@ demand-3 n before after f v v′ l′ l″ p =
           ∙ sym (ap (λ (e : Encoded). bitAt (e .payload .bytes) k) changes);
       d = λ whole inside bare exact output room.
           ap (λ (e : Encoded). readBack f (e .payload) output) changes
-          ∙ reads-back n (f .type) (f .order) (f .len) (f .at) (f .pos) (p .small) v′ (B n before after f v v′ l′ l″ p) (long-B n before after f v v′ l′ l″ p) (f .mask)
+          ∙ reads-back n (f .type) (f .order) (f .len) (f .at) (f .pos) v′ (B n before after f v v′ l′ l″ p) (long-B n before after f v v′ l′ l″ p) (f .mask)
           (t n before after f v v′ l′ l″ p) whole inside bare exact (long-C n before after f v v′ l′ l″ p) output room;
     }

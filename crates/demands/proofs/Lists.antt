@@ -169,7 +169,7 @@ two-across : Changed 2 [] across (low 8 0 4) (0xAB ∷ []) (0x5A ∷ []) (with (
 unfolding ordered bit bitAt number packed injected overlaid standardBits cleared readied spliced inCutOut grown writing footprint owns build allAccepted apartBelow apartFrom disjoint
 two-across =
     demand-3 2 [] across (low 8 0 4) (0xAB ∷ []) (0x5A ∷ []) (with (low 8 0 4) (0xAB ∷ []) ∷ across) (with (high 8 0 4) (0xCD ∷ []) ∷ with (low 8 0 4) (0x5A ∷ []) ∷ [])
-    (record { small = omega arith; taken = refl; owned-once = refl; one-order = Permᴰ·refl _; other-order = List·Permᴰ·swap refl refl })
+    (record { small = omega arith; all-accepted = refl; own-disjoint = refl; one-order = Permᴰ·refl _; other-order = List·Permᴰ·swap refl refl })
 
 -- and those of the read-back: a field of one byte, alone
 small-bytes : (j : ℕ) → getD (0xA5 ∷ []) j 0 < 256
@@ -181,5 +181,5 @@ alone : (output : List ℕ) → 1 ≤ length output
 unfolding ordered bit bitAt number packed injected overlaid standardBits cleared readied spliced inCutOut grown writing footprint owns build allAccepted apartBelow apartFrom disjoint
 alone output room =
     demand-3 1 [] [] (high 8 0 0) [] (0xA5 ∷ []) (with (high 8 0 0) [] ∷ []) (with (high 8 0 0) (0xA5 ∷ []) ∷ [])
-    (record { small = omega arith; taken = refl; owned-once = refl; one-order = Permᴰ·refl _; other-order = Permᴰ·refl _ })
+    (record { small = omega arith; all-accepted = refl; own-disjoint = refl; one-order = Permᴰ·refl _; other-order = Permᴰ·refl _ })
     .d refl refl refl (record { fills = refl; bytes = small-bytes; fits = λ i l. bitAt-out (0xA5 ∷ []) i (omega arith) }) output room

@@ -28,8 +28,8 @@ use Rattle.unpack.specs.Unpacked.{unpacked}
 use Rattle.unpack.proofs.Answers.{has-room}
 use Rattle.readers.specs.Finding.{fieldFinding}
 use Rattle.decode.specs.Decode.{finding, decodeOf}
-use Rattle.ownership.specs.Changes.{writtenIn, clearedIn}
-use Rattle.ownership.proofs.ReadBack.{stands}
+use Rattle.ownership.specs.Effects.{writtenIn, clearedIn}
+use Rattle.ownership.proofs.Rewritten.{stands}
 use Rattle.demands.specs.Changing.{Placed, fieldOf, cutOf, wholeOrShort, insideBytes, unmasked, Exact}
 use Rattle.demands.proofs.Calls.{Taken, bitsOf, writable}
 
@@ -64,7 +64,7 @@ exact-bits t len v i numeric fills whole l =
 abbrev bare : DataType → ByteOrder → ℕ → ℕ → ℕ → Placed
 bare type order len at pos = record { type = type; order = order; len = len; mask = noMask; at = at; pos = pos }
 
-module _ (n : ℕ) (type : DataType) (order : ByteOrder) (len at pos : ℕ) (small : n ≤ 65535) (t : Taken n (bare type order len at pos))
+module _ (n : ℕ) (type : DataType) (order : ByteOrder) (len at pos : ℕ) (t : Taken n (bare type order len at pos))
     (whole : wholeOrShort len ≡ true) (inside : insideBytes (bare type order len at pos) ≡ true) (v : List ℕ) (exact : Exact len v) (xs : List ℕ) (long : length xs ≡ n) where
   abbrev f : Placed
   f = bare type order len at pos
@@ -83,7 +83,7 @@ module _ (n : ℕ) (type : DataType) (order : ByteOrder) (len at pos : ℕ) (sma
   bit-back : (i : ℕ) → i < len → bitAt (ordered order (cut at (bytesFor len) ys)) (pos + i) ≡ bitAt v i
   bit-back i l =
       ap (λ (m : ℕ). bitAt (ordered order (cut at m ys)) (pos + i)) (sym one-cut)
-      ∙ stands (cutOf f) (bitsOf f v) (writable f v) xs (rw long (t .inside)) i l refl
+      ∙ stands (cutOf f) (bitsOf f v) (writable f v .zero-one) xs (rw long (t .inside)) i l refl
       ∙ exact-bits type len v i (t .numeric) (exact .fills) whole l
 
   value-back : extracted len pos (ordered order (cut at (bytesFor len) ys)) ≡ v
@@ -117,7 +117,7 @@ module _ (n : ℕ) (type : DataType) (order : ByteOrder) (len at pos : ℕ) (sma
       ∙ ap₂ (λ (m : ℕ) (b : List ℕ). record { report = read m (bytesFor len); output = b ++ drop (bytesFor len) output }) found-bits found-value
 
 -- the same of any field that has no mask
-module _ (n : ℕ) (type : DataType) (order : ByteOrder) (len at pos : ℕ) (small : n ≤ 65535) (v xs : List ℕ) (long : length xs ≡ n) where
+module _ (n : ℕ) (type : DataType) (order : ByteOrder) (len at pos : ℕ) (v xs : List ℕ) (long : length xs ≡ n) where
   abbrev masked : Mask → Placed
   masked mask = record { type = type; order = order; len = len; mask = mask; at = at; pos = pos }
 
@@ -130,6 +130,6 @@ module _ (n : ℕ) (type : DataType) (order : ByteOrder) (len at pos : ℕ) (sma
       ≡ record { report = read len (bytesFor len); output = v ++ drop (bytesFor len) output }
 
   pub reads-back : (mask : Mask) → ReadsBack mask
-  reads-back noMask t whole inside bare exact long-ys output room = read-bare n type order len at pos small t whole inside v exact xs long long-ys output room
+  reads-back noMask t whole inside bare exact long-ys output room = read-bare n type order len at pos t whole inside v exact xs long long-ys output room
   reads-back (plainMask mask) t whole inside bare exact long-ys output room = absurd (true≢false (sym bare))
   reads-back (condensedMask mask) t whole inside bare exact long-ys output room = absurd (true≢false (sym bare))

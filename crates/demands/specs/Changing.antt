@@ -61,18 +61,18 @@ build [] p = p
 build (e ∷ l) p = build l (write e p .payload)
 
 -- a call gives 0 and keeps the used length
-abbrev pub keeps : ℕ → Encoded → Bool
-keeps n e = eqb (e .report .number) 0 && eqb (e .payload .used) n
+abbrev pub succeeds : ℕ → Encoded → Bool
+succeeds n e = eqb (e .report .number) 0 && eqb (e .payload .used) n
 
-unfoldable pub allKeep : ℕ → List Entry → Payload → Bool
-allKeep n [] p = true
-allKeep n (e ∷ l) p = keeps n (write e p) && allKeep n l (write e p .payload)
+unfoldable pub allSucceed : ℕ → List Entry → Payload → Bool
+allSucceed n [] p = true
+allSucceed n (e ∷ l) p = succeeds n (write e p) && allSucceed n l (write e p .payload)
 
 -- ---- the premises
 
 -- a numeric field that encode accepts inside n bytes; the value does not matter
 abbrev pub accepted : ℕ → Placed → Bool
-accepted n f = isNumeric (f .type) && keeps n (write (with f []) (zeros n))
+accepted n f = isNumeric (f .type) && succeeds n (write (with f []) (zeros n))
 
 unfoldable pub allAccepted : ℕ → List Entry → Bool
 allAccepted n [] = true
@@ -119,7 +119,7 @@ unmasked noMask = true
 unmasked (plainMask mask) = false
 unmasked (condensedMask mask) = false
 
--- a value that fills the field's bytes and has no bit at or above its length
+-- a value of as many bytes as the field takes, with no bit at or above its length
 pub record Exact (len : ℕ) (v : List ℕ) : Type 0 where
   pub fills : length v ≡ bytesFor len
   pub bytes : (j : ℕ) → getD v j 0 < 256
@@ -139,17 +139,20 @@ module _ (n : ℕ) (before after : List Entry) (f : Placed) (v v′ : List ℕ) 
   -- l′ is the list of the fields in any order, and l″ in any other, with a new value for one of them
   pub record Premises : Type 0 where
     pub small : n ≤ 65535
-    pub taken : allAccepted n (among before after f v) ≡ true
-    pub owned-once : disjoint n (among before after f v) ≡ true
+    pub all-accepted : allAccepted n (among before after f v) ≡ true
+    pub own-disjoint : disjoint n (among before after f v) ≡ true
     pub one-order : List·Permᴰ (among before after f v) l′
     pub other-order : List·Permᴰ (among before after f v′) l″
 
   pub record Changed : Type 0 where
     -- every call gives 0 and keeps the used length
-    pub a-built : allKeep n l′ (zeros n) ≡ true
-    pub a-cleared : keeps n (clear f (build l′ (zeros n))) ≡ true
-    pub a-changed : keeps n (change f v′ (build l′ (zeros n))) ≡ true
-    pub a-anew : allKeep n l″ (zeros n) ≡ true
+    pub a-built : allSucceed n l′ (zeros n) ≡ true
+    pub a-cleared : succeeds n (clear f (build l′ (zeros n))) ≡ true
+    pub a-changed : succeeds n (change f v′ (build l′ (zeros n))) ≡ true
+    pub a-anew : allSucceed n l″ (zeros n) ≡ true
+    -- and the payload keeps its size
+    pub a-size : length (build l′ (zeros n) .bytes) ≡ n
+    pub a-size-changed : length (change f v′ (build l′ (zeros n)) .payload .bytes) ≡ n
     -- what is changed is what is built anew
     pub b : change f v′ (build l′ (zeros n)) .payload ≡ build l″ (zeros n)
     -- and no bit changes but the field's own

@@ -1,3 +1,3 @@
--- `Ownership` has which bits of a payload a field owns, and `Changes` what becomes of them.
+-- `Ownership` has which bits of a payload a field owns, and `Effects` what becomes of them.
 pub mod Ownership
-pub mod Changes
+pub mod Effects

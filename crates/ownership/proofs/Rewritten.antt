@@ -11,14 +11,15 @@ use Rattle.order.specs.Order.{ordered}
 use Rattle.order.proofs.Index.{length-ordered, ordered-ordered}
 use Rattle.bits.specs.Bits.{bitAt}
 use Rattle.bits.specs.Moves.{first}
+use Rattle.bits.proofs.Numbers.{Bits}
 use Rattle.bits.proofs.Moves.{first-in, raised-in, within-in}
 use Rattle.cutout.specs.CutOut.{ownedBit, cleared, put}
 use Rattle.payload.specs.Writing.{spliced, inCutOut, cutBytes}
 use Rattle.ownership.specs.Ownership.{Cut, ownedAt}
-use Rattle.ownership.specs.Changes.{sourceFor, writtenIn, clearedIn, sourceAt}
+use Rattle.ownership.specs.Effects.{sourceFor, writtenIn, clearedIn, sourceAt}
 use Rattle.ownership.proofs.Laid.{Inside}
-use Rattle.ownership.proofs.Writes.{Writable, landed-zero, pointwise-cleared, pointwise-put}
-use Rattle.ownership.proofs.Clears.{length-clearedIn}
+use Rattle.ownership.proofs.Writes.{left-zero, pointwise-put}
+use Rattle.ownership.proofs.Clears.{pointwise-cleared, length-clearedIn}
 
 -- the ordered cut-out after a change is the changed one
 pub ordered-inCutOut : (o : ByteOrder) (f : List ℕ → List ℕ) (at n : ℕ) (xs : List ℕ) → at + n ≤ length xs → length (f (ordered o (cut at n xs))) ≡ n
@@ -32,7 +33,7 @@ ordered-inCutOut o f at n xs fits e =
     ap (λ (ys : List ℕ). ordered o (take n ys)) (drop-at (take at xs) (zs ++ rest) at front) ∙ ap (ordered o) (take-at zs rest n mid)
     ∙ ordered-ordered o (f (ordered o (cut at n xs)))
 
-module _ (c : Cut) (bits : ℕ → ℕ) (w : Writable c bits) (xs : List ℕ) (h : Inside c (length xs)) where
+module _ (c : Cut) (bits : ℕ → ℕ) (b : Bits bits) (xs : List ℕ) (h : Inside c (length xs)) where
   abbrev n : ℕ
   n = cutBytes (c .pos) (c .size)
 
@@ -55,7 +56,7 @@ module _ (c : Cut) (bits : ℕ → ℕ) (w : Writable c bits) (xs : List ℕ) (h
       let cut-cleared : ordered (c .order) (cut (c .at) n (clearedIn c xs)) ≡ zs =
       ordered-inCutOut (c .order) (cleared (c .mask) (c .size) (c .pos)) (c .at) n xs h length-zs in
       let after : List ℕ → List ℕ = put (sourceFor c bits) (c .pos) in
-      let long : length (after zs) ≡ n = pointwise-put c bits w .size zs length-zs in
+      let long : length (after zs) ≡ n = pointwise-put c bits b .size zs length-zs in
       ordered-inCutOut (c .order) after (c .at) n (clearedIn c xs) (rw (length-clearedIn c xs h) h) (rw cut-cleared long) ∙ ap after cut-cleared
 
   -- bit pos+i is bit i of the source, where bit i is owned
@@ -67,4 +68,4 @@ module _ (c : Cut) (bits : ℕ → ℕ) (w : Writable c bits) (xs : List ℕ) (h
       let source : sourceAt c bits k ≡ bits i = raised-in (c .pos) (first (c .size) bits) i ∙ first-in (c .size) bits i l in
       let cleared-bit : bitAt zs k ≡ 0 = pointwise-cleared c .bits ys length-ys k (omega arith) ∙ rw owned in
       rw written-stands
-      (pointwise-put c bits w .bits zs length-zs k (omega arith) ∙ rw (owned, cleared-bit, source) (landed-zero (c .mask) (bits i)))
+      (pointwise-put c bits b .bits zs length-zs k (omega arith) ∙ rw (owned, cleared-bit, source, left-zero (c .mask)) (omega arith))

@@ -31,15 +31,15 @@ sourceAt c bits = raised (c .pos) (first (c .size) bits)
 unfoldable pub imprint : Cut → (ℕ → ℕ) → ℕ → List ℕ
 imprint c bits n = laid c (sourceAt c bits) n
 
--- what a write makes of an owned bit, by what was there and the source's bit: without a mask nothing is cleared
-abbrev pub landed : Mask → ℕ → ℕ → ℕ
-landed noMask old new = max old new
-landed (plainMask mask) old new = new
-landed (condensedMask mask) old new = new
+-- what a write leaves of an owned bit before the source comes: under a mask nothing, and without one what was there
+abbrev pub left : Mask → ℕ → ℕ
+left noMask old = old
+left (plainMask mask) old = 0
+left (condensedMask mask) old = 0
 
--- a write: owned bits take the source's, and the others stay
+-- a write: the source's bits are ORed into what is left
 abbrev pub afterWrite : Cut → (ℕ → ℕ) → ℕ → List ℕ → ℕ → ℕ
-afterWrite c bits n xs k = cond (owns c n k) (landed (c .mask) (bitAt xs k) (bitAt (imprint c bits n) k)) (bitAt xs k)
+afterWrite c bits n xs k = max (cond (owns c n k) (left (c .mask) (bitAt xs k)) (bitAt xs k)) (bitAt (imprint c bits n) k)
 
 -- a clear: owned bits are zero, and the others stay
 abbrev pub afterClear : Cut → ℕ → List ℕ → ℕ → ℕ
