@@ -6,6 +6,7 @@ use mathlib.Core.List.{List, [], _∷_, _++_, List·Permᴰ·swap, Permᴰ·refl
 use Prim.Native.Nat.{ℕ, zero, suc, _≤_, _<_}
 use native.Mathlib.Omega.{arith}
 use lib.ListN.{length, getD, drop, replicate}
+use lib.Count.{ones}
 use lib.Dec.{eqb}
 use Rattle.kinds.proofs.Examples.{Example, equal, hold, _is_}
 use Rattle.kinds.specs.Types.{bytesFor}
@@ -78,25 +79,29 @@ abbrev against : ℕ → List Entry → List ℕ → List ℕ
 against n [] v = []
 against n (e ∷ l) v = judged n (e ∷ l) ++ (change (e .field) v (build (e ∷ l) (zeros n)) .payload .bytes ++ build (with (e .field) v ∷ l) (zeros n) .bytes)
 
--- the premises of the read-back in their order: length, place, mask, the value's size, and its bits
+-- the premises of the read-back: length, place, mask, and of the value its size, that it is bytes, and its bits
 abbrev premises : Placed → List ℕ → List ℕ
 premises f v =
     flag (wholeOrShort (f .len))
     ∷ flag (insideBytes f)
     ∷ flag (unmasked (f .mask))
     ∷ flag (eqb (length v) (bytesFor (f .len)))
-    ∷ flag (equal v (packed (length v) (first (f .len) (bitAt v))))
+    ∷ flag (equal v (packed (length v) (bitAt v)))
+    ∷ flag (equal (packed (length v) (bitAt v)) (packed (length v) (first (f .len) (bitAt v))))
     ∷ []
 
-abbrev premised : ℕ → ℕ → ℕ → ℕ → ℕ → List ℕ
-premised a b c d e = a ∷ b ∷ c ∷ d ∷ e ∷ []
+abbrev premised : ℕ → ℕ → ℕ → ℕ → ℕ → ℕ → List ℕ
+premised a b c d e f = a ∷ b ∷ c ∷ d ∷ e ∷ f ∷ []
 
--- then number, bits and bytes of what is read after a change of n bytes of ones, and the output
+-- number, bits and bytes of what is read after a change of n bytes of ones, and the output
 abbrev flatDecoded : Decoded → List ℕ
 flatDecoded d = d .report .number ∷ d .report .«bit_count» ∷ d .report .«byte_count» ∷ d .output
 
+abbrev into : List ℕ → ℕ → Placed → List ℕ → List ℕ
+into output n f v = flatDecoded (readBack f (change f v (payloadOf (replicate n 0xFF) n) .payload) output)
+
 abbrev back : ℕ → Placed → List ℕ → List ℕ
-back n f v = premises f v ++ flatDecoded (readBack f (change f v (payloadOf (replicate n 0xFF) n) .payload) (replicate 3 0xEE))
+back n f v = premises f v ++ into (replicate 3 0xEE) n f v
 
 examples : List Example
 examples =
@@ -144,21 +149,25 @@ examples =
     ∷ (judged 2 (with (condensedBy (0x00 ∷ 0xFF ∷ []) (high 8 0 0)) [] ∷ []) is (0 ∷ 1 ∷ []))
     ∷ (judged 2 (with (typed ByteField (high 8 0 0)) [] ∷ []) is (0 ∷ 1 ∷ []))
     -- read back: high-low, low-high, inside a byte
-    ∷ (back 1 (high 8 0 0) (0xA5 ∷ []) is (premised 1 1 1 1 1 ++ (0 ∷ 8 ∷ 1 ∷ 0xA5 ∷ 0xEE ∷ 0xEE ∷ [])))
-    ∷ (back 2 (low 16 0 0) (0x12 ∷ 0x34 ∷ []) is (premised 1 1 1 1 1 ++ (0 ∷ 16 ∷ 2 ∷ 0x12 ∷ 0x34 ∷ 0xEE ∷ [])))
-    ∷ (back 1 (high 4 0 3) (0x09 ∷ []) is (premised 1 1 1 1 1 ++ (0 ∷ 4 ∷ 1 ∷ 0x09 ∷ 0xEE ∷ 0xEE ∷ [])))
+    ∷ (back 1 (high 8 0 0) (0xA5 ∷ []) is (premised 1 1 1 1 1 1 ++ (0 ∷ 8 ∷ 1 ∷ 0xA5 ∷ 0xEE ∷ 0xEE ∷ [])))
+    ∷ (back 2 (low 16 0 0) (0x12 ∷ 0x34 ∷ []) is (premised 1 1 1 1 1 1 ++ (0 ∷ 16 ∷ 2 ∷ 0x12 ∷ 0x34 ∷ 0xEE ∷ [])))
+    ∷ (back 1 (high 4 0 3) (0x09 ∷ []) is (premised 1 1 1 1 1 1 ++ (0 ∷ 4 ∷ 1 ∷ 0x09 ∷ 0xEE ∷ 0xEE ∷ [])))
     -- not so: a length of 12, bits above the length, an empty mask, condensed too, and across the edge of a byte
-    ∷ (back 2 (high 12 0 0) (0x0A ∷ 0xBC ∷ []) is (premised 0 1 1 1 1 ++ (0 ∷ 12 ∷ 2 ∷ 0x0A ∷ 0x0C ∷ 0xEE ∷ [])))
-    ∷ (back 1 (high 4 0 0) (0xF5 ∷ []) is (premised 1 1 1 1 0 ++ (0 ∷ 4 ∷ 1 ∷ 0x05 ∷ 0xEE ∷ 0xEE ∷ [])))
-    ∷ (back 1 (plain [] (high 8 0 0)) (0xA5 ∷ []) is (premised 1 1 0 1 1 ++ (0 ∷ 8 ∷ 1 ∷ 0x00 ∷ 0xEE ∷ 0xEE ∷ [])))
-    ∷ (back 1 (condensedBy [] (high 8 0 0)) (0xA5 ∷ []) is (premised 1 1 0 1 1 ++ (0 ∷ 0 ∷ 0 ∷ 0xEE ∷ 0xEE ∷ 0xEE ∷ [])))
-    ∷ (back 2 (high 8 0 4) (0xFF ∷ []) is (premised 1 0 1 1 1 ++ (27 ∷ 0 ∷ 0 ∷ 0xEE ∷ 0xEE ∷ 0xEE ∷ [])))
-    -- nor where the value does not fill the field's bytes
-    ∷ (back 2 (high 16 0 0) (0x12 ∷ []) is (premised 1 1 1 0 1 ++ (0 ∷ 16 ∷ 2 ∷ 0x00 ∷ 0x12 ∷ 0xEE ∷ [])))
+    ∷ (back 2 (high 12 0 0) (0x0A ∷ 0xBC ∷ []) is (premised 0 1 1 1 1 1 ++ (0 ∷ 12 ∷ 2 ∷ 0x0A ∷ 0x0C ∷ 0xEE ∷ [])))
+    ∷ (back 1 (high 4 0 0) (0xF5 ∷ []) is (premised 1 1 1 1 1 0 ++ (0 ∷ 4 ∷ 1 ∷ 0x05 ∷ 0xEE ∷ 0xEE ∷ [])))
+    ∷ (back 1 (plain [] (high 8 0 0)) (0xA5 ∷ []) is (premised 1 1 0 1 1 1 ++ (0 ∷ 8 ∷ 1 ∷ 0x00 ∷ 0xEE ∷ 0xEE ∷ [])))
+    ∷ (back 1 (condensedBy [] (high 8 0 0)) (0xA5 ∷ []) is (premised 1 1 0 1 1 1 ++ (0 ∷ 0 ∷ 0 ∷ 0xEE ∷ 0xEE ∷ 0xEE ∷ [])))
+    ∷ (back 2 (high 8 0 4) (0xFF ∷ []) is (premised 1 0 1 1 1 1 ++ (27 ∷ 0 ∷ 0 ∷ 0xEE ∷ 0xEE ∷ 0xEE ∷ [])))
+    -- nor with another mask, with a value that does not fill the field's bytes or is no bytes, and without room
+    ∷ (back 1 (plain (0x0F ∷ []) (high 8 0 0)) (0xA5 ∷ []) is (premised 1 1 0 1 1 1 ++ (0 ∷ 8 ∷ 1 ∷ 0x05 ∷ 0xEE ∷ 0xEE ∷ [])))
+    ∷ (back 1 (condensedBy (0xF0 ∷ []) (high 8 0 0)) (0x0A ∷ []) is (premised 1 1 0 1 1 1 ++ (0 ∷ 4 ∷ 1 ∷ 0x0A ∷ 0xEE ∷ 0xEE ∷ [])))
+    ∷ (back 2 (high 16 0 0) (0x12 ∷ []) is (premised 1 1 1 0 1 1 ++ (0 ∷ 16 ∷ 2 ∷ 0x00 ∷ 0x12 ∷ 0xEE ∷ [])))
+    ∷ (back 1 (high 8 0 0) (0x1A5 ∷ []) is (premised 1 1 1 1 0 1 ++ (0 ∷ 8 ∷ 1 ∷ 0xA5 ∷ 0xEE ∷ 0xEE ∷ [])))
+    ∷ (into [] 1 (high 8 0 0) (0xA5 ∷ []) is (41 ∷ 0 ∷ 0 ∷ []))
     ∷ []
 
 all-hold : hold examples ≡ true
-unfolding examples ordered bit bitAt number packed extracted injected overlaid maskBit frontBit onesBelow gathered onesOf condensed replacement replaced standardBits cleared readied spliced inCutOut grown writing clearing answer unpacked fieldFinding footprint owns build allAccepted apartBelow apartFrom disjoint
+unfolding examples ordered bit bitAt number packed extracted injected overlaid maskBit frontBit onesBelow gathered onesOf condensed replacement replaced standardBits cleared readied spliced inCutOut grown writing clearing answer unpacked fieldFinding footprint owns build allAccepted apartBelow apartFrom disjoint ones
 all-hold = refl
 
 -- the premises can be met: the theorem for two fields across the same bytes, built in one order and anew in the other

@@ -25,12 +25,12 @@ none-refusing n (x ∷ l) e =
     let h = both (accepted n (x .field)) (allAccepted n l) e in
     rw (h .0) (let rest = none-refusing n l (h .1) in omega arith)
 
-first-accepted : (b : Bool) (m : ℕ) → cond b 0 1 + m ≡ 0 → (b ≡ true) × (m ≡ 0)
-first-accepted true m e = (refl, omega arith)
-first-accepted false m e = absurd (omega arith)
+pub first-passes : (b : Bool) (m : ℕ) → cond b 0 1 + m ≡ 0 → (b ≡ true) × (m ≡ 0)
+first-passes true m e = (refl, omega arith)
+first-passes false m e = absurd (omega arith)
 
 pub refusing-cons : (n : ℕ) (x : Entry) (l : List Entry) → refusing n (x ∷ l) ≡ 0 → (accepted n (x .field) ≡ true) × (refusing n l ≡ 0)
-refusing-cons n x l e = first-accepted (accepted n (x .field)) (refusing n l) e
+refusing-cons n x l e = first-passes (accepted n (x .field)) (refusing n l) e
 
 -- ---- no bit has two owners
 
