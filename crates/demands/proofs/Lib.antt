@@ -1,7 +1,7 @@
 -- `Bench` has the bench cases that are proved, `Stored` examples of records and tables, `Worked` examples of encode and clear, and `Lists` lists
--- of fields; the checker computes them all. `Unique` has that no second answer fits a contract. `Changed` has demand 3 and `Coded` that
--- its calls are those of coded types; below it, `Calls` has what its calls leave, `Owners` lists of fields counted, `Building` what is
--- built of them, and `ReadBack` what is read back.
+-- of fields; the checker computes them all. `Unique` has that no second answer fits a contract. `Changed` has demand 3, and `Coded` the
+-- same by calls on coded types; below it, `Calls` has what its calls leave, `Owners` lists of fields counted, `Building` what is built of
+-- them, and `ReadBack` what is read back.
 pub mod Bench
 pub mod Stored
 pub mod Worked

@@ -130,6 +130,6 @@ module _ (n : ℕ) (type : DataType) (order : ByteOrder) (len at pos : ℕ) (v x
       ≡ record { report = read len (bytesFor len); output = v ++ drop (bytesFor len) output }
 
   pub reads-back : (mask : Mask) → ReadsBack mask
-  reads-back noMask t whole inside bare exact long-ys output room = read-bare n type order len at pos t whole inside v exact xs long long-ys output room
-  reads-back (plainMask mask) t whole inside bare exact long-ys output room = absurd (true≢false (sym bare))
-  reads-back (condensedMask mask) t whole inside bare exact long-ys output room = absurd (true≢false (sym bare))
+  reads-back noMask t whole inside none exact long-ys output room = read-bare n type order len at pos t whole inside v exact xs long long-ys output room
+  reads-back (plainMask mask) t whole inside none exact long-ys output room = absurd (true≢false (sym none))
+  reads-back (condensedMask mask) t whole inside none exact long-ys output room = absurd (true≢false (sym none))
