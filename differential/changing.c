@@ -17,7 +17,7 @@ enum { FILL = 0xA5, FAULT_CALLS = 200000, CALLS_FOR_ALL_KINDS = 100000, SHOWN = 
 
 static const char *const kinds[KINDS] = {
     [OVERLAP] = "overlapping cut-outs",
-    [ACROSS] = "low-high across bytes",
+    [ACROSS] = "low-high across bytes at a bit position",
     [TWELVE] = "of length 12",
     [SHORT] = "short plain masks",
     [LONG] = "long plain masks",
@@ -28,7 +28,7 @@ static const char *const kinds[KINDS] = {
     [LARGEST] = "payloads of 65535 bytes",
     [BACK_LOW] = "read back below a byte at bit 0",
     [BACK_HIGH] = "read back below a byte at other bits",
-    [BACK_TURNED] = "read back low-high across bytes",
+    [BACK_TURNED] = "read back low-high, several bytes",
     [BACK_BYTES] = "read back otherwise",
 };
 

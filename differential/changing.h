@@ -7,6 +7,7 @@
 #include "dct.h"
 
 enum { SLICE = 65535, FIELDS = 12, CUT = 9, MASK = 11, VALUE = 4096 };
+enum { INT32 = 1, UINT32 = 2, FLOAT32 = 3, FLOAT64 = 8 }; /* types, as records tell them */
 
 struct value {
     size_t length;

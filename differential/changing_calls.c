@@ -9,7 +9,7 @@
 
 #include "changing.h"
 
-enum { ROOM = 17 * 4096, PAGE = 4096, RECORD = 16, UINT32 = 2, STANDARD = 3, REFUSED_EVERY = 1000 };
+enum { ROOM = 17 * 4096, PAGE = 4096, RECORD = 16, STANDARD = 3, REFUSED_EVERY = 1000 };
 
 int fault;
 uint64_t calls;

@@ -1,11 +1,9 @@
-/* Draws lists of numeric fields of a told length whose own bits are disjoint, though their cut-outs often overlap. What a field
+/* Draws lists of numeric fields of given lengths whose own bits are disjoint, though their cut-outs often overlap. What a field
  * owns is worked out bit by bit as document 01 says it; nothing of that is the library's.
  */
 #include <string.h>
 
 #include "changing.h"
-
-enum { INT32 = 1, UINT32 = 2, FLOAT32 = 3, FLOAT64 = 8 };
 
 uint64_t state, met[KINDS];
 
@@ -175,7 +173,7 @@ static void meet(const struct list *l, const struct field *f)
     static const uint8_t nothing[CUT];
     int plain = !f->condensed && f->mask_length > 0, condensed = f->condensed && f->mask_length > 0;
     met[OVERLAP] += overlaps(l, f);
-    met[ACROSS] += !f->high_low && f->cut > 1;
+    met[ACROSS] += !f->high_low && f->cut > bytes_of(f->bits);
     met[TWELVE] += f->length == 12;
     met[SHORT] += plain && f->mask_length < bytes_of(f->length);
     met[LONG] += plain && f->mask_length > bytes_of(f->length);
