@@ -2,7 +2,8 @@
  * leaves the payload that the whole list with that value gives, in whatever order, and no bit has changed but the field's own.
  *
  *     changing CALLS SEED     makes so many calls
- *     changing faults SEED    puts faults around the library and into what is demanded, and sees each noticed
+ *     changing faults SEED    puts faults around the library and into what is demanded, and sees each noticed by the
+ *                             statement that is to notice it
  */
 #include <errno.h>
 #include <inttypes.h>
@@ -12,6 +13,26 @@
 #include <time.h>
 
 #include "changing.h"
+
+/* What is demanded: (a) to (d) of docs/CHANGING.md, and more than that from (e) on. */
+enum { A_ENCODE, A_USED, A_CLEAR, G_LENT, B_ANEW, C_ALONE, F_UNOWNED };
+enum { D_COUNTS = F_UNOWNED + 1, D_BITS, D_REST, E_ZEROS, E_OVER, E_CLEAR, ALL_HOLD };
+
+static const char *const statements[ALL_HOLD] = {
+    [A_ENCODE] = "(a) an encode gives 0 and counts nothing",
+    [A_USED] = "(a) an encode keeps the used length",
+    [A_CLEAR] = "(a) a clear gives 0 and counts nothing",
+    [G_LENT] = "(g) nothing is written outside what is lent",
+    [B_ANEW] = "(b) changing a field equals building anew",
+    [C_ALONE] = "(c) changing a field changes its own bits alone",
+    [F_UNOWNED] = "(f) bits that no field owns stay 0 when a list is built",
+    [D_COUNTS] = "(d) what was written is read back, with its counts",
+    [D_BITS] = "(d) what was written is read back, with every bit",
+    [D_REST] = "(d) the output past the result stays",
+    [E_ZEROS] = "(e) a write on zeros sets its own bits alone",
+    [E_OVER] = "(e) a write is an OR, and under a mask the source",
+    [E_CLEAR] = "(e) a clear zeroes its own bits alone",
+};
 
 enum { FILL = 0xA5, FAULT_CALLS = 200000, CALLS_FOR_ALL_KINDS = 100000, SHOWN = 64 };
 
@@ -32,44 +53,63 @@ static const char *const kinds[KINDS] = {
     [BACK_BYTES] = "read back otherwise",
 };
 
-static const char *const faults[FAULTS] = {
-    [NONE] = "no fault",
-    [WRITES_NOTHING] = "an encode that writes nothing",
-    [KEEPS_UNDER_MASK] = "an encode that clears nothing under a mask",
-    [CLEARS_FIRST] = "an encode that clears first without a mask",
-    [SETS_MORE] = "an encode that sets a bit beside its own",
-    [LEAVES_TURNED] = "an encode that leaves the bits between its own turned",
-    [GROWS] = "an encode that uses a byte more",
-    [REFUSES] = "an encode refused now and then",
-    [CLEARS_NOTHING] = "a clear that clears nothing",
-    [CLEARS_LENGTH] = "a clear of all of the length, mask or not",
-    [CLEARS_MORE] = "a clear that clears a bit beside its own",
-    [COUNTS_MORE] = "a decode that counts a bit more",
-    [COUNTS_LESS] = "a decode that counts a bit less",
-    [READS_MORE] = "a decode that gives a bit more",
-    [READS_LESS] = "a decode that gives a bit less",
-    [WRITES_PAST] = "a decode that writes past its result",
-    [OWNS_NO_REPETITION] = "ownership without a short mask's repetition",
-    [OWNS_LENGTH] = "ownership of all of the length, mask or not",
-    [OWNS_DECODED] = "ownership by the bytes that decode cuts",
-    [ANY_LENGTH] = "read back without a premise: lengths such as 12",
-    [BITS_ABOVE] = "read back without a premise: bits above the length",
-    [EMPTY_MASK] = "read back without a premise: an empty mask",
-    [OTHER_MASK] = "read back without a premise: another mask",
-    [PAST_EDGE] = "read back without a premise: across the byte edge",
-    [ANY_VALUE] = "read back without a premise: values of any size",
+/* Each with the statement that is to notice it. */
+static const struct {
+    int noticed_by;
+    const char *name;
+} faults[FAULTS] = {
+    [NONE] = {ALL_HOLD, "no fault"},
+    [WRITES_NOTHING] = {D_BITS, "an encode that writes nothing of the value"},
+    [KEEPS_UNDER_MASK] = {E_OVER, "an encode that clears nothing under a mask"},
+    [CLEARS_FIRST] = {E_OVER, "an encode that clears first without a mask"},
+    [SETS_MORE] = {B_ANEW, "an encode that sets a bit beside its own"},
+    [SETS_UNOWNED] = {F_UNOWNED, "an encode that sets a bit that no field owns"},
+    [SETS_AFTER_DECODE] = {E_ZEROS, "an encode that sets a bit beside its own after a decode"},
+    [LEAVES_TURNED] = {B_ANEW, "an encode that leaves the bits between its own turned"},
+    [GROWS] = {A_USED, "an encode that uses a byte more"},
+    [REFUSES] = {A_ENCODE, "an encode refused now and then"},
+    [TELLS_NOTHING] = {A_ENCODE, "an encode that writes no report"},
+    [WRITES_BEFORE] = {G_LENT, "an encode that writes the byte before the payload"},
+    [COUNTS_FROM_END] = {C_ALONE, "an encode and a clear that count bytes from the payload's end"},
+    [CLEARS_NOTHING] = {B_ANEW, "a clear that clears nothing"},
+    [KEEPS_MASKED] = {E_CLEAR, "a clear that clears nothing under a mask"},
+    [CLEARS_LENGTH] = {B_ANEW, "a clear of all of the length, mask or not"},
+    [CLEARS_MORE] = {B_ANEW, "a clear that clears a bit beside its own"},
+    [REFUSES_CLEAR] = {A_CLEAR, "a clear refused now and then"},
+    [CLEAR_COUNTS] = {A_CLEAR, "a clear that counts"},
+    [CLEARS_BEFORE] = {G_LENT, "a clear that writes the byte before the payload"},
+    [COUNTS_MORE] = {D_COUNTS, "a decode that counts a bit more"},
+    [COUNTS_LESS] = {D_COUNTS, "a decode that counts a bit less"},
+    [READS_MORE] = {D_BITS, "a decode that gives a bit more"},
+    [READS_LESS] = {D_BITS, "a decode that gives a bit less"},
+    [WRITES_PAST] = {D_REST, "a decode that writes past its result"},
+    [READS_BEFORE] = {G_LENT, "a decode that writes the byte before the output"},
+    [OWNS_NO_REPETITION] = {B_ANEW, "ownership without a short mask's repetition"},
+    [OWNS_LENGTH] = {E_OVER, "ownership of all of the length, mask or not"},
+    [OWNS_DECODED] = {B_ANEW, "ownership by the bytes that decode cuts"},
+    [ANY_LENGTH] = {D_BITS, "read back without a premise: lengths such as 12"},
+    [BITS_ABOVE] = {D_BITS, "read back without a premise: bits above the length"},
+    [EMPTY_MASK] = {D_COUNTS, "read back without a premise: an empty mask"},
+    [OTHER_MASK] = {D_COUNTS, "read back without a premise: another mask"},
+    [PAST_EDGE] = {D_COUNTS, "read back without a premise: across the byte edge"},
+    [ANY_VALUE] = {D_COUNTS, "read back without a premise: values of any size"},
 };
 
 static struct list l;
 static uint64_t lists;
 static uint8_t *payloads[3], *outputs;
 static uint8_t source[SLICE], before[SLICE], written[SLICE], cleared[SLICE];
-static const char *failed; /* the first statement that did not hold */
+static int failed; /* the first statement that did not hold */
+static uint64_t failed_at;
 
-static void hold(int true_, const char *statement)
+/* Of the statements that a fault breaks, which one comes upon it first is often the lists' chance. The first of them in the
+ * order above is to notice it, so those after that one are not looked at. */
+static void hold(int true_, int statement)
 {
-    if (!true_ && failed == NULL)
-        failed = statement;
+    if (true_ || failed != ALL_HOLD || statement > faults[fault].noticed_by)
+        return;
+    failed = statement;
+    failed_at = calls;
 }
 
 static const struct dct_report rubbish = {9, 9, 9, 9};
@@ -84,15 +124,17 @@ static void put(const struct field *f, const struct value *v, uint8_t *payload)
     struct dct_report report = rubbish;
     size_t used = l.room;
     uint32_t answer = encode(&l, f, v, payload, &used, &report);
-    hold(answer == DCT_OK && is_report(&report, 0, 0), "(a) an encode gives 0 and counts nothing");
-    hold(used == l.room, "(a) an encode keeps the used length");
+    hold(answer == DCT_OK && is_report(&report, 0, 0), A_ENCODE);
+    hold(used == l.room, A_USED);
+    hold(is_marked(payload), G_LENT);
 }
 
 static void erase(const struct field *f, uint8_t *payload)
 {
     struct dct_report report = rubbish;
     uint32_t answer = clear(&l, f, payload, &report);
-    hold(answer == DCT_OK && is_report(&report, 0, 0), "(a) a clear gives 0 and counts nothing");
+    hold(answer == DCT_OK && is_report(&report, 0, 0), A_CLEAR);
+    hold(is_marked(payload), G_LENT);
 }
 
 /* The list in an order, with this value for the field that is to be changed. */
@@ -104,7 +146,7 @@ static void build(const size_t *order, const struct value *of_changed, uint8_t *
         put(&l.fields[order[i]], order[i] == l.changed ? of_changed : &l.values[order[i]], payload);
 }
 
-/* (b) and (c), with the changed payload left in the second. */
+/* (b), (c) and (f), with the changed payload left in the second. */
 static void change(const struct field *f, const uint8_t *built, uint8_t *changed, uint8_t *anew)
 {
     size_t i;
@@ -113,13 +155,13 @@ static void change(const struct field *f, const uint8_t *built, uint8_t *changed
     erase(f, changed);
     put(f, &l.new_value, changed);
     build(l.order_anew, &l.new_value, anew);
-    hold(memcmp(changed, anew, l.room) == 0, "(b) changing a field equals building anew");
+    hold(memcmp(changed, anew, l.room) == 0, B_ANEW);
     for (i = 0; i < l.room; i++) {
         outside |= (built[i] ^ changed[i]) & ~own_at(f, i);
         unowned |= built[i] & ~l.taken[i];
     }
-    hold(outside == 0, "(c) changing a field changes its own bits alone");
-    hold(unowned == 0, "(c) bits that no field owns stay 0");
+    hold(outside == 0, C_ALONE);
+    hold(unowned == 0, F_UNOWNED);
 }
 
 /* The premises of (d) on the field. */
@@ -135,14 +177,14 @@ static int reads_back(const struct field *f)
 static const struct value *exact(const struct field *f, const struct value *v)
 {
     static struct value made;
-    size_t i;
-    if (fault == ANY_VALUE)
-        return v;
-    made.length = bytes_of(f->length);
-    for (i = 0; i < made.length; i++)
-        made.bytes[i] = i + v->length < made.length ? 0 : v->bytes[i + v->length - made.length];
-    if (f->length % 8 != 0 && fault != BITS_ABOVE)
-        made.bytes[0] &= (uint8_t)((1 << f->length % 8) - 1);
+    size_t i, from_end;
+    made.length = fault == ANY_VALUE ? v->length : bytes_of(f->length);
+    for (i = 0; i < made.length; i++) {
+        from_end = made.length - 1 - i;
+        made.bytes[i] = from_end < v->length ? v->bytes[v->length - 1 - from_end] : 0;
+        if (f->length < 8 * from_end + 8 && fault != BITS_ABOVE)
+            made.bytes[i] &= (uint8_t)(f->length > 8 * from_end ? (1 << f->length % 8) - 1 : 0);
+    }
     return &made;
 }
 
@@ -156,8 +198,8 @@ static int kind_of_read_back(const struct field *f)
 static void read_back(const struct field *f, const struct value *v, uint8_t *payload)
 {
     struct dct_report report = rubbish;
-    size_t length = v->length + below(4), i;
-    uint8_t *output = last(outputs, length);
+    size_t whole = bytes_of(f->length), length = (v->length > whole ? v->length : whole) + below(4), i;
+    uint8_t *output = lend(outputs, length);
     uint32_t answer;
     int rest = 0;
     met[kind_of_read_back(f)]++;
@@ -165,11 +207,12 @@ static void read_back(const struct field *f, const struct value *v, uint8_t *pay
     put(f, v, payload);
     memset(output, FILL, length);
     answer = decode(&l, f, payload, output, length, &report);
-    hold(answer == DCT_OK && is_report(&report, f->length, v->length), "(d) what was written is read back, with its counts");
-    hold(memcmp(output, v->bytes, v->length) == 0, "(d) what was written is read back, with every bit");
+    hold(is_marked(output) && is_marked(payload), G_LENT);
+    hold(answer == DCT_OK && is_report(&report, f->length, v->length), D_COUNTS);
+    hold(memcmp(output, v->bytes, v->length) == 0, D_BITS);
     for (i = v->length; i < length; i++)
         rest |= output[i] ^ FILL;
-    hold(rest == 0, "(d) the output past the result stays");
+    hold(rest == 0, D_REST);
 }
 
 /* What a list cannot show, since its fields meet zeros: over old bits a write is an OR where there is no mask, and under one
@@ -188,12 +231,12 @@ static void write_over(const struct field *f, uint8_t *payload)
         written[i] = (uint8_t)((f->mask_length > 0 ? cleared[i] : before[i]) | (source[i] & own));
         loose |= source[i] & ~own;
     }
-    hold(loose == 0, "(e) a write on zeros sets its own bits alone");
+    hold(loose == 0, E_ZEROS);
     memcpy(payload, before, l.room);
     put(f, &l.new_value, payload);
-    hold(memcmp(payload, written, l.room) == 0, "(e) a write is an OR, and under a mask the source");
+    hold(memcmp(payload, written, l.room) == 0, E_OVER);
     erase(f, payload);
-    hold(memcmp(payload, cleared, l.room) == 0, "(e) a clear zeroes its own bits alone");
+    hold(memcmp(payload, cleared, l.room) == 0, E_CLEAR);
 }
 
 static void try_list(void)
@@ -203,9 +246,9 @@ static void try_list(void)
     draw_list(&l);
     lists++;
     f = &l.fields[l.changed];
-    built = last(payloads[0], l.room);
-    changed = last(payloads[1], l.room);
-    anew = last(payloads[2], l.room);
+    built = lend(payloads[0], l.room);
+    changed = lend(payloads[1], l.room);
+    anew = lend(payloads[2], l.room);
     build(l.order, &l.values[l.changed], built);
     change(f, built, changed, anew);
     if (reads_back(f))
@@ -246,7 +289,8 @@ static void show_field(const struct field *f, const struct value *v)
 static void show_case(uint64_t seed)
 {
     size_t i;
-    printf("changing: after %" PRIu64 " calls (seed %" PRIu64 ") this does not hold: %s\n", calls, seed, failed);
+    printf("changing: after %" PRIu64 " calls (seed %" PRIu64 ") this does not hold: %s\n", failed_at, seed,
+           statements[failed]);
     printf("  payload of %zu bytes\n", l.room);
     for (i = 0; i < l.count; i++) {
         printf("  field %zu: ", i);
@@ -265,8 +309,8 @@ static void show_case(uint64_t seed)
 static void run(uint64_t limit)
 {
     time_t shown = time(NULL), now;
-    failed = NULL;
-    for (calls = lists = 0; calls < limit && failed == NULL; try_list()) {
+    failed = ALL_HOLD;
+    for (calls = lists = 0; calls < limit && failed == ALL_HOLD; try_list()) {
         now = lists % 256 == 0 ? time(NULL) : shown;
         if (now < shown + 10)
             continue;
@@ -292,21 +336,41 @@ static int tell(uint64_t seed)
     return 1;
 }
 
+static void tell_fault(void)
+{
+    const char *verdict = failed == faults[fault].noticed_by ? "" : "NOT AS IT SHOULD BE: ";
+    if (failed == ALL_HOLD)
+        printf("%snothing noticed in %" PRIu64 " calls: %s\n", verdict, calls, faults[fault].name);
+    else
+        printf("%snoticed at call %" PRIu64 ": %s, by %s\n", verdict, failed_at, faults[fault].name, statements[failed]);
+}
+
+/* The statements that noticed nothing, of which nobody knows that they can fail. */
+static int tell_idle(const int *noticed)
+{
+    int statement, idle = 0;
+    for (statement = 0; statement < ALL_HOLD; statement++) {
+        if (noticed[statement] == 0)
+            printf("NOT AS IT SHOULD BE: no fault noticed by %s\n", statements[statement]);
+        idle += noticed[statement] == 0;
+    }
+    return idle;
+}
+
 /* Each with the same lists from the start. Without a fault nothing may be noticed. */
 static int run_faults(uint64_t seed)
 {
-    int wrong = 0;
+    int wrong = 0, noticed[ALL_HOLD + 1] = {0};
     for (fault = NONE; fault < FAULTS; fault++) {
         state = seed;
         run(FAULT_CALLS);
-        wrong += (failed == NULL) != (fault == NONE);
-        if (failed != NULL)
-            printf("noticed after %" PRIu64 " calls: %s, by %.3s\n", calls, faults[fault], failed);
-        else
-            printf("nothing noticed in %" PRIu64 " calls: %s\n", calls, faults[fault]);
+        tell_fault();
+        wrong += failed != faults[fault].noticed_by;
+        noticed[failed]++;
     }
-    printf("changing: %d faults, %s (seed %" PRIu64 ")\n", FAULTS - 1, wrong == 0 ? "each noticed" : "NOT as it should be",
-           seed);
+    wrong += tell_idle(noticed);
+    printf("changing: %d faults for %d statements, %s (seed %" PRIu64 ")\n", FAULTS - 1, ALL_HOLD,
+           wrong == 0 ? "each noticed by its own" : "NOT as it should be", seed);
     return wrong > 0;
 }
 
@@ -341,7 +405,7 @@ int main(int words, char **word)
         return run_faults(seed);
     state = seed;
     run(limit);
-    if (failed != NULL)
+    if (failed != ALL_HOLD)
         show_case(seed);
-    return failed != NULL ? 1 : tell(seed);
+    return failed != ALL_HOLD ? 1 : tell(seed);
 }

@@ -47,17 +47,20 @@ size_t bytes_of(size_t bits);
 uint8_t own_at(const struct field *f, size_t at); /* the field's own bits of a byte of the payload */
 
 /* Faults around the library's calls and in what a field owns, and premises that are dropped. */
-enum { NONE, WRITES_NOTHING, KEEPS_UNDER_MASK, CLEARS_FIRST, SETS_MORE, LEAVES_TURNED, GROWS, REFUSES };
-enum { CLEARS_NOTHING = REFUSES + 1, CLEARS_LENGTH, CLEARS_MORE };
-enum { COUNTS_MORE = CLEARS_MORE + 1, COUNTS_LESS, READS_MORE, READS_LESS, WRITES_PAST };
-enum { OWNS_NO_REPETITION = WRITES_PAST + 1, OWNS_LENGTH, OWNS_DECODED };
+enum { NONE, WRITES_NOTHING, KEEPS_UNDER_MASK, CLEARS_FIRST, SETS_MORE, SETS_UNOWNED, SETS_AFTER_DECODE, LEAVES_TURNED };
+enum { GROWS = LEAVES_TURNED + 1, REFUSES, TELLS_NOTHING, WRITES_BEFORE, COUNTS_FROM_END };
+enum { CLEARS_NOTHING = COUNTS_FROM_END + 1, KEEPS_MASKED, CLEARS_LENGTH, CLEARS_MORE };
+enum { REFUSES_CLEAR = CLEARS_MORE + 1, CLEAR_COUNTS, CLEARS_BEFORE };
+enum { COUNTS_MORE = CLEARS_BEFORE + 1, COUNTS_LESS, READS_MORE, READS_LESS, WRITES_PAST, READS_BEFORE };
+enum { OWNS_NO_REPETITION = READS_BEFORE + 1, OWNS_LENGTH, OWNS_DECODED };
 enum { ANY_LENGTH = OWNS_DECODED + 1, BITS_ABOVE, EMPTY_MASK, OTHER_MASK, PAST_EDGE, ANY_VALUE, FAULTS };
 
 extern int fault;
 extern uint64_t calls;
 
 uint8_t *region(void);                        /* its last byte is before a page that cannot be touched */
-uint8_t *last(uint8_t *start, size_t length); /* so many bytes at its end */
+uint8_t *lend(uint8_t *start, size_t length); /* so many bytes at its end, behind marked ones */
+int is_marked(const uint8_t *lent);           /* the bytes before it are as they were marked */
 void prepare_calls(void);
 uint32_t encode(const struct list *l, const struct field *f, const struct value *v, uint8_t *payload, size_t *used,
                 struct dct_report *report);
