@@ -7,7 +7,7 @@ use Prim.Native.Nat.{ℕ, _≤_, max}
 use native.Mathlib.Omega.{arith}
 use lib.ListN.{length, length-replicate}
 use lib.Dec.{eqb, ltb}
-use borrow.Author.Tests.{ltb-false, le-ltb, eqb-true, ne-eqb}
+use borrow.Author.Tests.{ltb-false, le-ltb, eqb-true, ne-eqb, not-true}
 use Rattle.kinds.specs.Types.{isNumeric, isByteType}
 use Rattle.kinds.specs.Refusals.{bitPositionRefusal}
 use Rattle.kinds.proofs.Compare.{same}
@@ -50,16 +50,12 @@ pub record Taken (n : ℕ) (f : Placed) : Type 0 where
   pub seven : f .pos ≤ 7
   pub inside : Inside (cutOf f) n
 
-is-false : (b : Bool) → not b ≡ true → b ≡ false
-is-false true e = cc
-is-false false e = refl
-
 pub accepted-taken : (n : ℕ) (f : Placed) → n ≤ 65535 → accepted n f ≡ true → Taken n f
 unfolding writing
 accepted-taken n f small e =
     let len = length-replicate {A = ℕ} n 0 in
     let size : ℕ = sizeUnder (counted (f .mask)) (f .len) in
-    let numeric : isByteType (f .type) ≡ false = is-false (isByteType (f .type)) (both (isNumeric (f .type)) (succeeds n (write (with f []) (zeros n))) e .0) in
+    let numeric : isByteType (f .type) ≡ false = not-true (isByteType (f .type)) (both (isNumeric (f .type)) (succeeds n (write (with f []) (zeros n))) e .0) in
     let kept = both (eqb (write (with f []) (zeros n) .report .number) 0) _ (both (isNumeric (f .type)) (succeeds n (write (with f []) (zeros n))) e .1) .0 in
     let own = none-before (bitPositionRefusal (f .type) (f .pos)) (zeros n) _ kept .1 in
     let length-ok = none-before (standardRefusal (f .type) (f .len) (f .mask)) (zeros n) _ own in
