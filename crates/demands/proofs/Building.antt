@@ -19,7 +19,7 @@ use Rattle.ownership.proofs.Writes.{left-zero, imprint-none, length-writtenIn, 
 use Rattle.ownership.proofs.Permutations.{total, total-permuted}
 use Rattle.demands.specs.Changing.{Placed, Entry, with, zeros, build, succeeds, allSucceed, accepted, own, cutOf, allAccepted, disjoint}
 use Rattle.demands.proofs.Calls.{Taken, accepted-taken, bitsOf, writable, write-done}
-use Rattle.demands.proofs.Owners.{refusing, refusing-cons, none-refusing, owners, one-owner}
+use Rattle.demands.proofs.Owners.{refuses, refusing, refusing-cons, none-refusing, ownsAt, owners, one-owner}
 
 -- ---- one write, of a field that is accepted
 
@@ -125,35 +125,32 @@ module _ (n : ℕ) (small : n ≤ 65535) where
 
 -- ---- on zero bytes
 
-pub long-zero : (n : ℕ) → length (replicate {A = ℕ} n 0) ≡ n
-long-zero n = length-replicate n 0
-
 pub bytes-zero : (n : ℕ) → Bytes (replicate n 0)
 bytes-zero n j =
     ⊎-elim (λ (l : j < n). rw (getD-replicate {A = ℕ} n j 0 0 l) (omega arith))
-    (λ (l : n ≤ j). rw (List·getD-eq-default {A = ℕ} (replicate n 0) 0 {n = j} (rw (long-zero n) l)) (omega arith)) (below j n)
+    (λ (l : n ≤ j). rw (List·getD-eq-default {A = ℕ} (replicate n 0) 0 {n = j} (rw (length-replicate {A = ℕ} n 0) l)) (omega arith)) (below j n)
 
 module _ (n : ℕ) (small : n ≤ 65535) where
   -- each bit is what lands there
   pub bits-on-zeros : (l : List Entry) → refusing n l ≡ 0 → (k : ℕ) → k < 8 * n → owners n k l ≤ 1 → bitAt (builtOn l (replicate n 0)) k ≡ landing n k l
   bits-on-zeros l r k h one =
       let zero = bitAt-zeros n k h in
-      let whole = bits-builtOn n small l (replicate n 0) r (long-zero n) k h one (λ (g : 1 ≤ owners n k l). zero) in
+      let whole = bits-builtOn n small l (replicate n 0) r (length-replicate n 0) k h one (λ (g : 1 ≤ owners n k l). zero) in
       omega (arith, zero, whole)
 
   -- a list that is accepted and disjoint is built to the same bytes in any order
   pub any-order : (l l′ : List Entry) → allAccepted n l ≡ true → disjoint n l ≡ true → List·Permᴰ l l′ → build l (zeros n) ≡ build l′ (zeros n)
   any-order l l′ a d p =
       let none = none-refusing n l a in
-      let none′ = sym (total-permuted (λ (e : Entry). cond (accepted n (e .field)) 0 1) p) ∙ none in
-      let long = length-builtOn n small l (replicate n 0) none (long-zero n) in
+      let none′ = sym (total-permuted (refuses n) p) ∙ none in
+      let long = length-builtOn n small l (replicate n 0) none (length-replicate n 0) in
       let same : builtOn l (replicate n 0) ≡ builtOn l′ (replicate n 0) =
-      ext-bits (builtOn l (replicate n 0)) (builtOn l′ (replicate n 0)) (bytes-builtOn n small l (replicate n 0) none (long-zero n) (bytes-zero n))
-      (bytes-builtOn n small l′ (replicate n 0) none′ (long-zero n) (bytes-zero n))
-      (long ∙ sym (length-builtOn n small l′ (replicate n 0) none′ (long-zero n)))
+      ext-bits (builtOn l (replicate n 0)) (builtOn l′ (replicate n 0)) (bytes-builtOn n small l (replicate n 0) none (length-replicate n 0) (bytes-zero n))
+      (bytes-builtOn n small l′ (replicate n 0) none′ (length-replicate n 0) (bytes-zero n))
+      (long ∙ sym (length-builtOn n small l′ (replicate n 0) none′ (length-replicate n 0)))
       (λ k h.
       let inside : k < 8 * n = rw long at h in
       let one = one-owner n l k inside d in
       bits-on-zeros l none k inside one ∙ total-permuted (λ (e : Entry). landsAt n e k) p
-      ∙ sym (bits-on-zeros l′ none′ k inside (rw (sym (total-permuted (λ (e : Entry). cond (own n (e .field) k) 1 0) p)) one))) in
-      build-on n small l (replicate n 0) none (long-zero n) ∙ ap (λ (xs : List ℕ). payloadOf xs n) same ∙ sym (build-on n small l′ (replicate n 0) none′ (long-zero n))
+      ∙ sym (bits-on-zeros l′ none′ k inside (rw (sym (total-permuted (ownsAt n k) p)) one))) in
+      build-on n small l (replicate n 0) none (length-replicate n 0) ∙ ap (λ (xs : List ℕ). payloadOf xs n) same ∙ sym (build-on n small l′ (replicate n 0) none′ (length-replicate n 0))

@@ -2,10 +2,10 @@
 use mathlib.Core.Path.{_≡_, refl, sym, ap, _∙_}
 use mathlib.Core.Logic.{⊎-elim}
 use mathlib.Core.Bool.{Bool, true, false, cond}
-use mathlib.Core.List.{List, [], _∷_, _++_}
+use mathlib.Core.List.{List, [], _∷_}
 use Prim.Native.Nat.{ℕ, _+_, _*_, _≤_, _<_, max}
 use native.Mathlib.Omega.{arith}
-use lib.ListN.{length, replicate}
+use lib.ListN.{length, replicate, length-replicate}
 use borrow.Author.Tests.{eq-eqb}
 use Rattle.kinds.proofs.Compare.{below}
 use Rattle.bits.specs.Bits.{bitAt}
@@ -20,13 +20,9 @@ use Rattle.ownership.proofs.Clears.{length-clearedIn, bytes-clearedIn, clear-la
 use Rattle.ownership.proofs.Permutations.{total, total-append, total-permuted}
 use Rattle.demands.specs.Changing.{Placed, Entry, with, write, clear, readBack, zeros, build, succeeds, accepted, own, cutOf, among, change, Premises, Demand3}
 use Rattle.demands.proofs.Calls.{Taken, accepted-taken, write-done, clear-done}
-use Rattle.demands.proofs.Owners.{refusing, refusing-cons, none-refusing, owners, owners-cons, one-owner}
+use Rattle.demands.proofs.Owners.{refuses, refusing, refusing-cons, none-refusing, ownsAt, owners, owners-cons, one-owner}
 use Rattle.demands.proofs.ReadBack.{reads-back}
-use Rattle.demands.proofs.Building.{landsAt, lands-none, next, length-next, bytes-next, bits-next, builtOn, build-on, all-succeed, length-builtOn, bytes-builtOn, landing, long-zero, bytes-zero, bits-on-zeros}
-
--- a list around one element
-around : (w : Entry → ℕ) (before after : List Entry) (e : Entry) → total w (before ++ (e ∷ after)) ≡ total w before + (w e + total w after)
-around w before after e = total-append w before (e ∷ after)
+use Rattle.demands.proofs.Building.{landsAt, lands-none, next, length-next, bytes-next, bits-next, builtOn, build-on, all-succeed, length-builtOn, bytes-builtOn, landing, bytes-zero, bits-on-zeros}
 
 -- what nobody owns, nothing lands at
 lands-nowhere : (n : ℕ) (small : n ≤ 65535) (l : List Entry) → refusing n l ≡ 0 → (k : ℕ) → k < 8 * n → owners n k l ≡ 0 → landing n k l ≡ 0
@@ -48,7 +44,7 @@ module _ (n : ℕ) (before after : List Entry) (f : Placed) (v v′ : List ℕ) 
 
   -- a count that goes by fields alone is the same for both lists
   same-fields : (w : Placed → ℕ) → total (λ (e : Entry). w (e .field)) news ≡ total (λ (e : Entry). w (e .field)) olds
-  same-fields w = around (λ (e : Entry). w (e .field)) before after (with f v′) ∙ sym (around (λ (e : Entry). w (e .field)) before after (with f v))
+  same-fields w = total-append (λ (e : Entry). w (e .field)) before (with f v′ ∷ after) ∙ sym (total-append (λ (e : Entry). w (e .field)) before (with f v ∷ after))
 
   none-old : refusing n olds ≡ 0
   none-old = none-refusing n olds (p .all-accepted)
@@ -57,26 +53,26 @@ module _ (n : ℕ) (before after : List Entry) (f : Placed) (v v′ : List ℕ) 
   none-new = same-fields (λ g. cond (accepted n g) 0 1) ∙ none-old
 
   none′ : refusing n l′ ≡ 0
-  none′ = sym (total-permuted (λ (e : Entry). cond (accepted n (e .field)) 0 1) (p .one-order)) ∙ none-old
+  none′ = sym (total-permuted (refuses n) (p .one-order)) ∙ none-old
 
   none″ : refusing n l″ ≡ 0
-  none″ = sym (total-permuted (λ (e : Entry). cond (accepted n (e .field)) 0 1) (p .other-order)) ∙ none-new
+  none″ = sym (total-permuted (refuses n) (p .other-order)) ∙ none-new
 
   -- ---- built, cleared and written
 
   t : Taken n f
   t =
-      let middle : cond (accepted n f) 0 1 + refusing n after ≡ 0 = let whole = around (λ (e : Entry). cond (accepted n (e .field)) 0 1) before after (with f v) in omega (arith, whole, none-old) in
+      let middle : cond (accepted n f) 0 1 + refusing n after ≡ 0 = let whole = total-append (refuses n) before (with f v ∷ after) in omega (arith, whole, none-old) in
       accepted-taken n f (p .small) (refusing-cons n (with f v) after middle .0)
 
   abbrev B : List ℕ
   B = builtOn l′ (replicate n 0)
 
   long-B : length B ≡ n
-  long-B = length-builtOn n (p .small) l′ (replicate n 0) none′ (long-zero n)
+  long-B = length-builtOn n (p .small) l′ (replicate n 0) none′ (length-replicate n 0)
 
   is-built : build l′ (zeros n) ≡ payloadOf B n
-  is-built = build-on n (p .small) l′ (replicate n 0) none′ (long-zero n)
+  is-built = build-on n (p .small) l′ (replicate n 0) none′ (length-replicate n 0)
 
   inside-B : Inside (cutOf f) (length B)
   inside-B = rw long-B (t .inside)
@@ -105,10 +101,10 @@ module _ (n : ℕ) (before after : List Entry) (f : Placed) (v v′ : List ℕ) 
   owners-new k = same-fields (λ g. cond (own n g k) 1 0)
 
   owners′ : (k : ℕ) → k < 8 * n → owners n k l′ ≤ 1
-  owners′ k h = rw (sym (total-permuted (λ (e : Entry). cond (own n (e .field) k) 1 0) (p .one-order))) (owners-old k h)
+  owners′ k h = rw (sym (total-permuted (ownsAt n k) (p .one-order))) (owners-old k h)
 
   owners″ : (k : ℕ) → k < 8 * n → owners n k l″ ≤ 1
-  owners″ k h = rw (sym (total-permuted (λ (e : Entry). cond (own n (e .field) k) 1 0) (p .other-order)), owners-new k) (owners-old k h)
+  owners″ k h = rw (sym (total-permuted (ownsAt n k) (p .other-order)), owners-new k) (owners-old k h)
 
   bits-B : (k : ℕ) → k < 8 * n → bitAt B k ≡ landing n k olds
   bits-B k h = bits-on-zeros n (p .small) l′ none′ k h (owners′ k h) ∙ sym (total-permuted (λ (e : Entry). landsAt n e k) (p .one-order))
@@ -129,8 +125,8 @@ module _ (n : ℕ) (before after : List Entry) (f : Placed) (v v′ : List ℕ) 
   -- the fields before and after own none of the field's bits, so nothing of theirs lands there
   around-none : (k : ℕ) → k < 8 * n → own n f k ≡ true → (landing n k before ≡ 0) × (landing n k after ≡ 0)
   around-none k h o =
-      let refused = around (λ (e : Entry). cond (accepted n (e .field)) 0 1) before after (with f v) in
-      let owned : owners n k olds ≡ owners n k before + (1 + owners n k after) = rw o at (around (λ (e : Entry). cond (own n (e .field) k) 1 0) before after (with f v)) in
+      let refused = total-append (refuses n) before (with f v ∷ after) in
+      let owned : owners n k olds ≡ owners n k before + (1 + owners n k after) = rw o at (total-append (ownsAt n k) before (with f v ∷ after)) in
       let one = owners-old k h in (
         lands-nowhere n (p .small) before (omega (arith, refused, none-old)) k h (omega (arith, owned, one)),
         lands-nowhere n (p .small) after (omega (arith, refused, none-old)) k h (omega (arith, owned, one)),
@@ -144,7 +140,7 @@ module _ (n : ℕ) (before after : List Entry) (f : Placed) (v v′ : List ℕ) 
   same-bits : (k : ℕ) → k < 8 * n → bitAt C k ≡ bitAt (builtOn l″ (replicate n 0)) k
   same-bits k h =
       let w : Entry → ℕ = λ e. landsAt n e k in
-      bits-C k h ∙ rw (bits-B k h ∙ around w before after (with f v), bits-anew k h ∙ around w before after (with f v′))
+      bits-C k h ∙ rw (bits-B k h ∙ total-append w before (with f v ∷ after), bits-anew k h ∙ total-append w before (with f v′ ∷ after))
       (replaced (own n f k) (landing n k before) (landing n k after) (landsAt n (with f v) k) (landsAt n (with f v′) k) (around-none k h)
       (lands-none n f v t k h) (lands-none n f v′ t k h))
 
@@ -153,9 +149,9 @@ module _ (n : ℕ) (before after : List Entry) (f : Placed) (v v′ : List ℕ) 
 
   same-bytes : C ≡ builtOn l″ (replicate n 0)
   same-bytes =
-      ext-bits C (builtOn l″ (replicate n 0)) (bytes-next n f v′ t D long-D (bytes-clearedIn (cutOf f) B inside-B (bytes-builtOn n (p .small) l′ (replicate n 0) none′ (long-zero n) (bytes-zero n))))
-      (bytes-builtOn n (p .small) l″ (replicate n 0) none″ (long-zero n) (bytes-zero n))
-      (long-C ∙ sym (length-builtOn n (p .small) l″ (replicate n 0) none″ (long-zero n)))
+      ext-bits C (builtOn l″ (replicate n 0)) (bytes-next n f v′ t D long-D (bytes-clearedIn (cutOf f) B inside-B (bytes-builtOn n (p .small) l′ (replicate n 0) none′ (length-replicate n 0) (bytes-zero n))))
+      (bytes-builtOn n (p .small) l″ (replicate n 0) none″ (length-replicate n 0) (bytes-zero n))
+      (long-C ∙ sym (length-builtOn n (p .small) l″ (replicate n 0) none″ (length-replicate n 0)))
       (λ k h. same-bits k (rw long-C at h))
 
   -- ---- (c)
@@ -168,7 +164,7 @@ module _ (n : ℕ) (before after : List Entry) (f : Placed) (v v′ : List ℕ) 
 pub demand-3 : Demand3
 demand-3 n before after f v v′ l′ l″ p =
     let changes = is-changed n before after f v v′ l′ l″ p in
-    let zero = long-zero n in
+    let zero = length-replicate {A = ℕ} n 0 in
     let one = none′ n before after f v v′ l′ l″ p in
     let other = none″ n before after f v v′ l′ l″ p in
     record {

@@ -5,7 +5,7 @@ use mathlib.Core.Bool.{Bool, true, cond}
 use mathlib.Core.List.{List, [], _∷_, _++_, map, map-append, List·Permᴰ, List·Permᴰ·nil, List·Permᴰ·cons, List·Permᴰ·swap, List·Permᴰ·trans}
 use Prim.Native.Nat.{ℕ, _≤_}
 use native.Mathlib.Omega.{arith}
-use lib.ListN.{length, replicate}
+use lib.ListN.{length, replicate, length-replicate}
 use lib.Dec.{eqb, ltb}
 use borrow.Author.Tests.{eqb-true}
 use Rattle.kinds.specs.declared.types.DataType.{DataType}
@@ -27,8 +27,8 @@ use Rattle.ownership.proofs.Clears.{length-clearedIn}
 use Rattle.ownership.proofs.Permutations.{total, total-append, total-permuted}
 use Rattle.demands.specs.Changing.{Placed, Entry, with, write, clear, readBack, zeros, build, among, change, accepted, allAccepted, disjoint, cutOf}
 use Rattle.demands.proofs.Calls.{accepted-taken, write-done, clear-done}
-use Rattle.demands.proofs.Owners.{refusing, first-passes, refusing-cons, none-refusing}
-use Rattle.demands.proofs.Building.{builtOn, next, length-next, build-on, length-builtOn, long-zero}
+use Rattle.demands.proofs.Owners.{refuses, refusing, first-passes, refusing-cons, none-refusing}
+use Rattle.demands.proofs.Building.{builtOn, next, length-next, build-on, length-builtOn}
 use Rattle.demands.proofs.Changed.{demand-3}
 
 -- a coded type of a given length with its store, at a place
@@ -170,7 +170,7 @@ module _ (n : ℕ) (small : n ≤ 65535) where
         let split′ : entries news ≡ among (entries before) (entries after) f v′ = map-append entryOf before (valued d v′ ∷ after) in
         let none : refusing n (entries olds) ≡ 0 = none-refusing n (entries olds) all in
         let none-split : refusing n (among (entries before) (entries after) f v) ≡ 0 = rw split at none in
-        let w : Entry → ℕ = λ e. cond (accepted n (e .field)) 0 1 in
+        let w = refuses n in
         let parts = total-append w (entries before) (with f v ∷ entries after) in
         let taken : accepted n f ≡ true = refusing-cons n (with f v) (entries after) (omega (arith, parts, none-split)) .0 in
         let same-fields : refusing n (entries news) ≡ 0 = rw split′ (total-append w (entries before) (with f v′ ∷ entries after) ∙ sym parts ∙ none-split) in
@@ -179,12 +179,12 @@ module _ (n : ℕ) (small : n ≤ 65535) where
         let u : Valued → ℕ = λ x. cond (legal n (x .described) (length (x .value))) 0 1 in
         let ok : legal n d (length v′) ≡ true = first-passes (legal n d (length v′)) (illegal n after) (omega (arith, total-append u before (valued d v′ ∷ after), j)) .0 in
         let B : List ℕ = builtOn (entries l′) (replicate n 0) in
-        let statement = build-on n small (entries l′) (replicate n 0) none′ (long-zero n) in
-        let calls = build-coded l′ (replicate n 0) (sym (total-permuted u p) ∙ i) none′ (long-zero n) in
+        let statement = build-on n small (entries l′) (replicate n 0) none′ (length-replicate n 0) in
+        let calls = build-coded l′ (replicate n 0) (sym (total-permuted u p) ∙ i) none′ (length-replicate n 0) in
         let whole =
         demand-3 n (entries before) (entries after) f v v′ (entries l′) (entries l″)
         (record { small = small; all-accepted = rw split at all; own-disjoint = rw split at apart; one-order = rw split at (permuted-entries p); other-order = rw split′ at (permuted-entries q) }) in
         ap (λ (x : Payload). writeBy d v′ (clearBy d x .payload) .payload) (calls ∙ statement)
-        ∙ ap (λ (e : Encoded). e .payload) (change-coded d v′ B ok taken (length-builtOn n small (entries l′) (replicate n 0) none′ (long-zero n)))
+        ∙ ap (λ (e : Encoded). e .payload) (change-coded d v′ B ok taken (length-builtOn n small (entries l′) (replicate n 0) none′ (length-replicate n 0)))
         ∙ sym (ap (λ (x : Payload). change f v′ x .payload) statement) ∙ whole .b
-        ∙ sym (build-coded l″ (replicate n 0) (sym (total-permuted u q) ∙ j) none″ (long-zero n))
+        ∙ sym (build-coded l″ (replicate n 0) (sym (total-permuted u q) ∙ j) none″ (length-replicate n 0))

@@ -10,13 +10,19 @@ use Rattle.ownership.proofs.Permutations.{total}
 use Rattle.demands.specs.Changing.{Placed, Entry, accepted, allAccepted, own, apartBelow, apart, apartFrom, disjoint}
 use Rattle.demands.proofs.Calls.{both}
 
--- how many fields of a list are not accepted
-abbrev pub refusing : ℕ → List Entry → ℕ
-refusing n l = total (λ (e : Entry). cond (accepted n (e .field)) 0 1) l
+-- 1 for a field that is not accepted, and how many of a list are not
+abbrev pub refuses : ℕ → Entry → ℕ
+refuses n e = cond (accepted n (e .field)) 0 1
 
--- how many own bit k
+abbrev pub refusing : ℕ → List Entry → ℕ
+refusing n l = total (refuses n) l
+
+-- 1 for a field that owns bit k, and how many of a list do
+abbrev pub ownsAt : ℕ → ℕ → Entry → ℕ
+ownsAt n k e = cond (own n (e .field) k) 1 0
+
 abbrev pub owners : ℕ → ℕ → List Entry → ℕ
-owners n k l = total (λ (e : Entry). cond (own n (e .field) k) 1 0) l
+owners n k l = total (ownsAt n k) l
 
 pub none-refusing : (n : ℕ) (l : List Entry) → allAccepted n l ≡ true → refusing n l ≡ 0
 unfolding allAccepted
