@@ -1,2 +1,3 @@
--- Demand 3, in full.
+-- `Refusing` states demand 1, and `Changing` demand 3.
+pub mod Refusing
 pub mod Changing
