@@ -40,7 +40,7 @@ use Rattle.field.proofs.Numbers.{sizes-not-30, described-not-30, call-not-30, w
 use Rattle.unpack.specs.Answers as unpack
 use Rattle.decode.specs.Decode.{decoded}
 use Rattle.decode.specs.Runtime.{lentWith, runtimeRead}
-use Rattle.payload.specs.Answers.{Payload, payloadOf, Encoded, answered}
+use Rattle.payload.specs.Answers.{Payload, Encoded, answered}
 use Rattle.encode.specs.Encode.{encoded}
 use Rattle.clear.specs.Clear.{clearedField}
 use Rattle.record.specs.declared.calls.Recorded.{Recorded}
