@@ -1,0 +1,181 @@
+//! The five functions of include/dct.h, called with slices, and all that is unsafe in the crate.
+//!
+//! What the header asks of a caller holds by the types: a slice's pointer is never null and holds what its length says, and what
+//! is lent by `&mut` overlaps nothing else.
+use crate::{number, Field, Refusal};
+
+/// `struct dct_report`.
+#[derive(Default)]
+#[repr(C)]
+pub struct Report {
+    pub bit_count: usize,
+    pub byte_count: usize,
+    pub expected: usize,
+    pub actual: usize,
+}
+
+extern "C" {
+    fn dct_decode(
+        record: *const u8,
+        record_length: usize,
+        store: *const u8,
+        store_length: usize,
+        payload: *const u8,
+        payload_length: usize,
+        byte_pos: usize,
+        bit_pos: usize,
+        output: *mut u8,
+        output_length: usize,
+        report: *mut Report,
+    ) -> u32;
+    fn dct_encode(
+        record: *const u8,
+        record_length: usize,
+        store: *const u8,
+        store_length: usize,
+        input: *const u8,
+        input_length: usize,
+        payload: *mut u8,
+        payload_length: usize,
+        used: *mut usize,
+        byte_pos: usize,
+        bit_pos: usize,
+        report: *mut Report,
+    ) -> u32;
+    fn dct_clear(
+        record: *const u8,
+        record_length: usize,
+        store: *const u8,
+        store_length: usize,
+        payload: *mut u8,
+        payload_length: usize,
+        used: usize,
+        byte_pos: usize,
+        bit_pos: usize,
+        report: *mut Report,
+    ) -> u32;
+    fn dct_read(
+        record: *const u8,
+        record_length: usize,
+        store: *const u8,
+        store_length: usize,
+        payload: *const u8,
+        payload_length: usize,
+        byte_pos: usize,
+        byte_count: usize,
+        place: *mut usize,
+        report: *mut Report,
+    ) -> u32;
+    fn dct_fetch(table: *const u8, table_length: usize, number: usize, places: *mut [usize; 3]) -> u32;
+}
+
+/// The report of a call that gave a number.
+fn answered(number: u32, report: Report) -> Result<Report, Refusal> {
+    match number {
+        number::OK => Ok(report),
+        _ => Err(Refusal { number, expected: report.expected, actual: report.actual }),
+    }
+}
+
+pub fn decode(field: Field, payload: &[u8], byte_pos: usize, bit_pos: usize, output: &mut [u8]) -> Result<Report, Refusal> {
+    let Field { record, store } = field;
+    let mut report = Report::default();
+    // SAFETY: each pointer comes with the length of its slice, and the borrows keep apart what is written.
+    let number = unsafe {
+        dct_decode(
+            record.as_ptr(),
+            record.len(),
+            store.as_ptr(),
+            store.len(),
+            payload.as_ptr(),
+            payload.len(),
+            byte_pos,
+            bit_pos,
+            output.as_mut_ptr(),
+            output.len(),
+            &mut report,
+        )
+    };
+    answered(number, report)
+}
+
+pub fn encode(
+    field: Field,
+    input: &[u8],
+    payload: &mut [u8],
+    used: &mut usize,
+    byte_pos: usize,
+    bit_pos: usize,
+) -> Result<(), Refusal> {
+    let Field { record, store } = field;
+    let mut report = Report::default();
+    // SAFETY: as in `decode`; `used` is lent alone too.
+    let number = unsafe {
+        dct_encode(
+            record.as_ptr(),
+            record.len(),
+            store.as_ptr(),
+            store.len(),
+            input.as_ptr(),
+            input.len(),
+            payload.as_mut_ptr(),
+            payload.len(),
+            used,
+            byte_pos,
+            bit_pos,
+            &mut report,
+        )
+    };
+    answered(number, report).map(drop)
+}
+
+pub fn clear(field: Field, payload: &mut [u8], used: usize, byte_pos: usize, bit_pos: usize) -> Result<(), Refusal> {
+    let Field { record, store } = field;
+    let mut report = Report::default();
+    // SAFETY: as in `decode`.
+    let number = unsafe {
+        dct_clear(
+            record.as_ptr(),
+            record.len(),
+            store.as_ptr(),
+            store.len(),
+            payload.as_mut_ptr(),
+            payload.len(),
+            used,
+            byte_pos,
+            bit_pos,
+            &mut report,
+        )
+    };
+    answered(number, report).map(drop)
+}
+
+/// Where the part starts in the payload, and the report.
+pub fn read(field: Field, payload: &[u8], byte_pos: usize, byte_count: usize) -> Result<(usize, Report), Refusal> {
+    let Field { record, store } = field;
+    let (mut place, mut report) = (0, Report::default());
+    // SAFETY: as in `decode`; nothing that is lent is written but `place` and the report.
+    let number = unsafe {
+        dct_read(
+            record.as_ptr(),
+            record.len(),
+            store.as_ptr(),
+            store.len(),
+            payload.as_ptr(),
+            payload.len(),
+            byte_pos,
+            byte_count,
+            &mut place,
+            &mut report,
+        )
+    };
+    answered(number, report).map(|report| (place, report))
+}
+
+/// Where the record starts in the table, where the store starts, and how long the store is.
+pub fn fetch(table: &[u8], number: usize) -> Result<[usize; 3], Refusal> {
+    let mut places = [0; 3];
+    // SAFETY: as in `decode`; nothing is written but the places.
+    let number = unsafe { dct_fetch(table.as_ptr(), table.len(), number, &mut places) };
+    answered(number, Report::default()).map(|_| places)
+}

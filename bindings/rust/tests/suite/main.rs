@@ -1,0 +1,124 @@
+//! Holds the crate to the stored answers of the Rust, to the cases that all bindings share, and to include/dct.h.
+mod call;
+mod cases;
+mod stored;
+
+use call::Case;
+use dct::Refusal;
+use std::collections::HashSet;
+use std::sync::LazyLock;
+
+const HEADER: &str = include_str!("../../../../include/dct.h");
+const NUMBERS: &str = include_str!("../../src/refusal.rs");
+
+static STORED: LazyLock<Vec<Case>> = LazyLock::new(stored::cases);
+static CASES: LazyLock<Vec<Case>> = LazyLock::new(cases::cases);
+
+/// Makes the calls of one name and compares each answer in full.
+fn hold(cases: &[Case], name: &str) {
+    let cases: Vec<&Case> = cases.iter().filter(|case| case.call.name() == name).collect();
+    assert!(!cases.is_empty(), "no {name} among the cases");
+    let mut different = 0;
+    for Case { place, call, answer } in &cases {
+        let made = call.made();
+        if made != *answer {
+            different += 1;
+            if different <= 3 {
+                println!("{place}, {name}\n  gives {:.400}\n  not   {:.400}", format!("{made:?}"), format!("{answer:?}"));
+            }
+        }
+    }
+    assert_eq!(different, 0, "of {} cases of {name}", cases.len());
+}
+
+#[test]
+fn stored_decode() {
+    hold(&STORED, "decode");
+}
+
+#[test]
+fn stored_encode() {
+    hold(&STORED, "encode");
+}
+
+#[test]
+fn stored_clear() {
+    hold(&STORED, "clear");
+}
+
+#[test]
+fn stored_read() {
+    hold(&STORED, "read");
+}
+
+#[test]
+fn case_fetch() {
+    hold(&CASES, "fetch");
+}
+
+#[test]
+fn case_decode() {
+    hold(&CASES, "decode");
+}
+
+#[test]
+fn case_encode() {
+    hold(&CASES, "encode");
+}
+
+#[test]
+fn case_clear() {
+    hold(&CASES, "clear");
+}
+
+#[test]
+fn case_read() {
+    hold(&CASES, "read");
+}
+
+/// Name, number and sentence of each number of the header.
+fn header() -> Vec<(String, u32, String)> {
+    let numbered = |line: &str| {
+        let (name, rest) = line.trim().strip_prefix("DCT_")?.split_once(" = ")?;
+        let (number, rest) = rest.split_once("/*")?;
+        let number = number.trim().trim_end_matches(',').parse().ok()?;
+        Some((name.to_owned(), number, rest.strip_suffix("*/")?.trim().to_owned()))
+    };
+    HEADER.lines().filter_map(numbered).collect()
+}
+
+#[test]
+fn every_number_arises() {
+    assert_eq!(STORED.len(), 20_000);
+    let arose: HashSet<u32> = STORED.iter().chain(CASES.iter()).map(|case| case.call.made().number).collect();
+    let missing: Vec<_> = header().into_iter().filter(|(_, number, _)| !arose.contains(number)).collect();
+    assert!(missing.is_empty(), "these never arose: {missing:?}");
+}
+
+#[test]
+fn numbers_of_the_header() {
+    let listed = |line: &str| {
+        let (name, rest) = line.trim().split_once(" = ")?;
+        let (number, rest) = rest.split_once(", \"")?;
+        Some((name.to_owned(), number.parse().ok()?, rest.strip_suffix("\";")?.to_owned()))
+    };
+    let ours: Vec<(String, u32, String)> = NUMBERS.lines().filter_map(listed).collect();
+    assert_eq!(ours, header());
+    assert_eq!(ours.len(), HEADER.matches("    DCT_").count());
+    for (_, number, sentence) in ours {
+        assert_eq!(Refusal { number, expected: 0, actual: 0 }.meaning(), sentence);
+    }
+    assert_eq!((dct::number::OK, dct::number::NOT_ENOUGH_DATA, dct::number::MALFORMED_TABLE), (0, 30, 45));
+}
+
+#[test]
+fn refusal_as_text() {
+    let text = |number| {
+        let error: Box<dyn std::error::Error> = Refusal { number, expected: 5, actual: 2 }.into();
+        error.to_string()
+    };
+    let short = "refusal 30: the payload is too short: expected and actual say by how much (expected 5, actual 2)";
+    assert_eq!(text(30), short);
+    assert_eq!(text(12), "refusal 12: the maximum is 0");
+    assert_eq!(text(77), "refusal 77: an unknown number");
+}
