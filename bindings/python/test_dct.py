@@ -1,0 +1,508 @@
+"""Holds dct.py to the stored answers of the Rust, to the cases that all bindings share, to include/dct.h, and to its own promises
+on arguments."""
+import _ctypes
+import ctypes
+import functools
+import importlib.util
+import os
+import re
+import shutil
+import struct
+import tempfile
+import unittest
+from array import array
+from pathlib import Path
+from typing import NamedTuple
+
+import dct
+
+BINDINGS = Path(__file__).resolve().parent.parent
+ROOT = BINDINGS.parent
+U8 = dct.Field(bytes.fromhex("02010300000000080000000000000000"), b"")
+
+
+class Watched:
+    """The shared object, each call of which is held to what include/dct.h asks of a caller."""
+
+    # which slices a call writes
+    WRITTEN = {"dct_decode": [3], "dct_encode": [3], "dct_clear": [2], "dct_read": [], "dct_fetch": []}
+
+    def __init__(self, library):
+        self.library = library
+
+    def __getattr__(self, name):
+        function = getattr(self.library, name)
+
+        def watched(*arguments):
+            held(function.argtypes, arguments, self.WRITTEN[name])
+            return function(*arguments)
+
+        return watched
+
+
+def held(types, arguments, written):
+    """Fails where a pointer could be null, does not hold what its length says, or could overlap something else.
+
+    What is read has to be `bytes`, which is never null and which no buffer to be written shares; what is written, of ctypes.
+    """
+    slices = 0
+    for i, argument in enumerate(arguments):
+        if types[i] is ctypes.c_char_p:
+            length = arguments[i + 1]
+            if slices in written:
+                fits = isinstance(argument, ctypes.Array) and len(argument) >= max(length, 1)
+            else:
+                fits = type(argument) is bytes and len(argument) == length
+            slices += 1
+            if not fits:
+                raise AssertionError(f"slice {slices} of {length} bytes is passed as {argument!r:.40}")
+        elif argument is None:
+            raise AssertionError(f"argument {i} is a null pointer")
+
+
+def setUpModule():
+    dct._library = Watched(dct._library)
+
+
+class Answer(NamedTuple):
+    """All that comes of a call; what it has not to do with is 0 or empty."""
+
+    number: int = 0
+    expected: int = 0
+    actual: int = 0
+    bit_count: int = 0
+    byte_count: int = 0
+    used: int = 0  # after an encode
+    place: int = 0  # of a part in the payload
+    data: bytes = b""  # what was read; all of the payload after the call; the record
+    store: bytes = b""
+
+
+class Case(NamedTuple):
+    """A call with its arguments as bytes and ints, its answer, and where they are stored."""
+
+    place: str
+    call: str
+    arguments: list
+    answer: Answer
+
+
+def place_of(part, payload):
+    """Where a part starts in the payload; a copy is anywhere but there."""
+    if not isinstance(part, memoryview):
+        return None
+    start, base = (ctypes.addressof(ctypes.c_char.from_buffer(of)) if len(of) else 0 for of in (part, payload))
+    return start - base if len(part) else 0
+
+
+def answered(call, arguments):
+    """Makes a call that has to succeed."""
+    if call == "fetch":
+        field = dct.fetch(*arguments)
+        return Answer(data=field.record, store=field.store)
+    record, store, *rest = arguments
+    field = dct.Field(record, store)
+    if call == "decode":
+        reading = dct.decode(field, *rest)
+        return Answer(data=reading.data, byte_count=len(reading.data), bit_count=reading.bit_count)
+    if call == "encode":
+        used = dct.encode(field, *rest)
+        return Answer(used=used, data=bytes(rest[1]))
+    if call == "clear":
+        dct.clear(field, *rest)
+        return Answer(data=bytes(rest[0]))
+    reading = dct.read(field, *rest)
+    place = place_of(reading.data, rest[0])
+    return Answer(place=place, data=bytes(reading.data), byte_count=len(reading.data), bit_count=reading.bit_count)
+
+
+# Where the payload is among the arguments, for the calls that write or lend it, and where the used length is.
+PAYLOAD = {"encode": 3, "clear": 2, "read": 2}
+USED = {"encode": 4}
+
+
+def unchanged(call, arguments):
+    """What a call leaves that does nothing."""
+    writes = call in ("encode", "clear")
+    data = bytes(arguments[PAYLOAD[call]]) if writes else b""
+    return Answer(used=arguments[USED[call]] if call in USED else 0, data=data)
+
+
+def made(case):
+    arguments = list(case.arguments)
+    if case.call in PAYLOAD:
+        arguments[PAYLOAD[case.call]] = bytearray(arguments[PAYLOAD[case.call]])
+    try:
+        return answered(case.call, arguments)
+    except dct.Refusal as refusal:
+        left = unchanged(case.call, arguments)
+        return left._replace(number=refusal.number, expected=refusal.expected, actual=refusal.actual)
+
+
+def far(number, bits):
+    """A number of so many bits, of which the upper half stands for the last numbers below 2^64."""
+    return number if number < 1 << bits - 1 else number + (1 << 64) - (1 << bits)
+
+
+HEAD = struct.Struct(">8BIBHBIB")
+
+
+def stored_answer(place, head, record, store, input, payload, after):
+    """A stored answer, in the form that docs/DIFFERENTIAL.md describes."""
+    code, number, _, _, _, _, lent, left, byte_pos, bit_pos, bit_count, byte_count, expected, actual = head
+    position = [far(byte_pos, 32), far(bit_pos, 8)]
+    answer = Answer(number, far(expected, 32), actual, bit_count, byte_count, data=after)
+    changed = after + payload[len(after) :]
+    if code == 1:
+        return Case(place, "decode", [record, store, payload, *position, lent], answer)
+    if code == 2:
+        answer = answer._replace(used=left, data=changed)
+        return Case(place, "encode", [record, store, input, payload, lent, *position], answer)
+    if code == 3:
+        return Case(place, "clear", [record, store, payload, lent, *position], answer._replace(data=changed))
+    if code == 4:
+        return Case(place, "read", [record, store, payload, position[0], lent], answer._replace(place=left))
+    raise ValueError(f"no call {code}")
+
+
+@functools.lru_cache(None)
+def stored():
+    """The stored answers of crates/replay/stdin."""
+    listed = (ROOT / "crates/replay/stdin").read_bytes()
+    cases, at = [], 0
+    while at < len(listed):
+        head = HEAD.unpack_from(listed, at)
+        at += HEAD.size
+        parts = []
+        for length in (16, *head[2:6]):
+            parts.append(listed[at : at + length])
+            at += length
+        cases.append(stored_answer(f"stored answer {len(cases)}", head, *parts))
+    return cases
+
+
+def bytes_of(word, names):
+    pieces = [] if word == "-" else word.split("+")
+    parted = [piece.partition("*") for piece in pieces]
+    return b"".join((names[once] if once in names else bytes.fromhex(once)) * int(count or 1) for once, _, count in parted)
+
+
+# Which arguments of a call are bytes (b) and which are numbers (n), and the same of its answer, by the answer's names.
+TAKES = {"fetch": "bn", "decode": "bbbnnn", "encode": "bbbbnnn", "clear": "bbbnnn", "read": "bbbnn"}
+GIVES = {
+    "fetch": ["data", "store"],
+    "decode": ["bit_count", "data"],
+    "encode": ["used", "data"],
+    "clear": ["data"],
+    "read": ["bit_count", "place", "data"],
+}
+
+
+def shared_case(place, line, names):
+    """A case of bindings/cases.txt, in the form that its head describes."""
+    asked, _, wanted = line.partition(" = ")
+    call, *words = asked.split()
+    if len(words) != len(TAKES[call]):
+        raise ValueError(f"{place}: {call} takes {len(TAKES[call])} words")
+    arguments = [bytes_of(word, names) if kind == "b" else int(word) for kind, word in zip(TAKES[call], words)]
+    number, *words = wanted.split()
+    gives = GIVES[call] if number == "0" else ["expected", "actual"] if number == "30" else []
+    if len(words) != len(gives):
+        raise ValueError(f"{place}: {number} gives {len(gives)} words")
+    given = {name: bytes_of(word, names) if name in ("data", "store") else int(word) for name, word in zip(gives, words)}
+    answer = unchanged(call, arguments)._replace(number=int(number), **given)
+    if call in ("decode", "read"):
+        answer = answer._replace(byte_count=len(answer.data))
+    return Case(place, call, arguments, answer)
+
+
+@functools.lru_cache(None)
+def shared():
+    """The cases of bindings/cases.txt."""
+    names, cases = {}, []
+    for number, line in enumerate((BINDINGS / "cases.txt").read_text().splitlines(), 1):
+        if line.startswith("name "):
+            _, name, meant = line.split()
+            names[name] = bytes.fromhex(meant)
+        elif line and not line.startswith("#"):
+            cases.append(shared_case(f"line {number} of cases.txt", line, names))
+    return cases
+
+
+@functools.lru_cache(None)
+def compared(source, call):
+    """The cases of a call, each with the answer that was made."""
+    return [(case, made(case)) for case in source() if case.call == call]
+
+
+class Answers(unittest.TestCase):
+    """Every call of the stored and the shared cases, each answer compared in full."""
+
+    def hold(self, source, call):
+        both = compared(source, call)
+        self.assertTrue(both, f"no {call} among the cases")
+        different = [(case, answer) for case, answer in both if answer != case.answer]
+        shown = [f"{case.place}, {call}\n  gives {answer!s:.400}\n  not   {case.answer!s:.400}" for case, answer in different[:3]]
+        self.assertEqual(len(different), 0, f"of {len(both)} cases of {call}\n" + "\n".join(shown))
+
+    def test_stored_decode(self):
+        self.hold(stored, "decode")
+
+    def test_stored_encode(self):
+        self.hold(stored, "encode")
+
+    def test_stored_clear(self):
+        self.hold(stored, "clear")
+
+    def test_stored_read(self):
+        self.hold(stored, "read")
+
+    def test_case_fetch(self):
+        self.hold(shared, "fetch")
+
+    def test_case_decode(self):
+        self.hold(shared, "decode")
+
+    def test_case_encode(self):
+        self.hold(shared, "encode")
+
+    def test_case_clear(self):
+        self.hold(shared, "clear")
+
+    def test_case_read(self):
+        self.hold(shared, "read")
+
+    def test_every_number_arises(self):
+        self.assertEqual(len(stored()), 20000)
+        arose = {answer.number for source in (stored, shared) for call in TAKES for _, answer in compared(source, call)}
+        missing = [name for name, number, _ in header() if number not in arose]
+        self.assertEqual(missing, [], "these never arose")
+
+
+def header():
+    """Name, number and sentence of each number of include/dct.h."""
+    text = (ROOT / "include/dct.h").read_text()
+    numbered = re.findall(r"^ +DCT_(\w+) = (\d+),? +/\* (.*) \*/$", text, re.MULTILINE)
+    if len(numbered) != text.count("    DCT_"):
+        raise ValueError("a number of include/dct.h has another form")
+    return [(name, int(number), sentence) for name, number, sentence in numbered]
+
+
+class Numbers(unittest.TestCase):
+    """The numbers, their sentences, and a refusal as text."""
+
+    def test_numbers_of_the_header(self):
+        ours = {name: value for name, value in vars(dct).items() if re.fullmatch("[A-Z][A-Z0-9_]*", name)}
+        self.assertEqual(ours, {name: number for name, number, _ in header()})
+        for _, number, sentence in header():
+            self.assertEqual(dct.Refusal(number).meaning, sentence)
+
+    def test_refusal_as_text(self):
+        short = "refusal 30: the payload is too short: expected and actual say by how much (expected 5, actual 2)"
+        self.assertEqual(str(dct.Refusal(30, 5, 2)), short)
+        self.assertEqual(str(dct.Refusal(12)), "refusal 12: the maximum is 0")
+        self.assertEqual(str(dct.Refusal(77)), "refusal 77: an unknown number")
+
+    def test_unknown_number(self):
+        class Later:
+            """A library with a number that dct.py does not know."""
+
+            dct_clear = staticmethod(lambda *_: 77)
+
+        self.addCleanup(setattr, dct, "_library", dct._library)
+        dct._library = Later
+        with self.assertRaises(dct.Refusal) as caught:
+            dct.clear(U8, bytearray(1), 1)
+        self.assertEqual(caught.exception.number, 77)
+
+
+class Arguments(unittest.TestCase):
+    """What is no argument raises before the call, and what is one keeps the duties of a caller."""
+
+    def refuses(self, errors, call, *arguments):
+        payload, raised = bytearray(b"\x5A\x5A"), None
+        try:
+            call(*[payload if argument is Ellipsis else argument for argument in arguments])
+        except Exception as error:
+            raised = error
+        self.assertIsInstance(raised, errors, f"{call.__name__} {arguments}")
+        self.assertEqual(payload, b"\x5A\x5A")
+        self.grow(payload)
+
+    def grow(self, payload):
+        try:
+            payload.append(0)
+        except BufferError:
+            self.fail("the payload is still viewed")
+
+    def test_not_a_number(self):
+        # each would do something, were it taken by its lowest 64 bits; the payload is at the ellipsis
+        calls = [
+            (dct.fetch, [b"DCT\0\1\0\1\0\0" + U8.record, 0], [1]),
+            (dct.decode, [U8, b"\1\2", 0, 0, 4], [2, 3, 4]),
+            (dct.encode, [U8, b"\1", ..., 2, 0, 0], [3, 4, 5]),
+            (dct.clear, [U8, ..., 2, 0, 0], [2, 3, 4]),
+            (dct.read, [U8, b"\1\2", 0, 1], [2, 3]),
+        ]
+        for call, arguments, places in calls:
+            for place in places:
+                for wrong in (-1, 1 << 64, -(1 << 64) + 1, (1 << 64) + 1, 1.0, "1", b"1", None):
+                    errors = ValueError if isinstance(wrong, int) else TypeError
+                    self.refuses(errors, call, *arguments[:place], wrong, *arguments[place + 1 :])
+
+    def test_not_bytes(self):
+        for wrong in (5, [1], "text", None):
+            for field in (dct.Field(wrong, b""), dct.Field(U8.record, wrong)):
+                self.refuses(TypeError, dct.decode, field, b"\1")
+                self.refuses(TypeError, dct.encode, field, b"\1", ..., 2)
+                self.refuses(TypeError, dct.clear, field, ..., 2)
+                self.refuses(TypeError, dct.read, field, b"\1", 0, 1)
+            self.refuses(TypeError, dct.fetch, wrong, 0)
+            self.refuses(TypeError, dct.decode, U8, wrong)
+            self.refuses(TypeError, dct.encode, U8, wrong, ..., 2)
+            self.refuses(TypeError, dct.encode, U8, b"\1", wrong, 0)
+            self.refuses(TypeError, dct.clear, U8, wrong, 0)
+            self.refuses(TypeError, dct.read, U8, wrong, 0, 0)
+
+    def test_read_only_payload(self):
+        # used lengths that would be refused: the payload is looked at first
+        for payload in (b"\1", memoryview(b"\1"), memoryview(bytearray(1)).toreadonly(), b""):
+            self.refuses(TypeError, dct.encode, U8, b"\2", payload, 9)
+            self.refuses(TypeError, dct.clear, U8, payload, 9)
+
+    def test_payload_in_steps(self):
+        whole = bytearray(b"\x5A" * 8)
+        for payload in (memoryview(whole)[::2], memoryview(whole)[::-1]):
+            self.refuses(BufferError, dct.encode, U8, b"\2", payload, 1)
+            self.refuses(BufferError, dct.clear, U8, payload, 1)
+            self.refuses(BufferError, dct.read, U8, payload, 0, 1)
+        self.assertEqual(whole, b"\x5A" * 8)
+        self.assertEqual(dct.decode(U8, memoryview(b"\1\2\3\4")[1::2], 1).data, b"\4")
+
+    def test_kinds_of_buffers(self):
+        words = array("H", [0, 0])
+        self.assertEqual(dct.encode(U8, array("B", [7]), words, 0, 3), 4)
+        self.assertEqual(words.tobytes(), b"\0\0\0\7")
+        self.assertEqual(dct.read(U8, words, 2, 2).data, b"\0\7")
+        raw = ctypes.create_string_buffer(b"\xFF\xFF", 2)
+        dct.clear(U8, raw, 2, 1)
+        self.assertEqual(raw.raw, b"\xFF\0")
+        whole = bytearray(b"\xFF" * 4)
+        dct.clear(U8, memoryview(whole)[1:3], 2, 1)
+        self.assertEqual(whole, b"\xFF\xFF\0\xFF")
+
+    def test_empty_buffers(self):
+        for empty in (bytearray(), array("H"), memoryview(bytearray(4))[2:2], memoryview(bytearray(4))[::2][1:1]):
+            field = dct.Field(U8.record, empty)
+            for call, arguments, number in [
+                (dct.fetch, [empty, 0], 45),
+                (dct.decode, [field, empty], 30),
+                (dct.decode, [field, b"\1", 0, 0, 0], 41),
+                (dct.encode, [field, empty, empty, 0], 40),
+                (dct.clear, [field, empty, 0], 30),
+                (dct.read, [field, empty, 0, 1], 30),
+            ]:
+                with self.assertRaises(dct.Refusal) as caught:
+                    call(*arguments)
+                self.assertEqual(caught.exception.number, number, call.__name__)
+            self.assertEqual(dct.read(field, empty, 9, 0), (b"", 0))
+
+    def test_one_buffer_for_all(self):
+        # record, store, input and payload are the same bytes: the input's last byte is written in front of a record
+        all_of_it = bytearray(U8.record[:15] + b"\x00")
+        self.assertEqual(dct.encode((all_of_it, all_of_it), memoryview(all_of_it)[:8], all_of_it, 16, 4), 16)
+        self.assertEqual(all_of_it, U8.record[:4] + b"\x08" + U8.record[5:])
+        all_of_it[4] = 0
+        dct.clear((all_of_it, all_of_it), all_of_it, 16, 0)
+        self.assertEqual(all_of_it, b"\0" + U8.record[1:])
+
+    def test_payload_can_be_resized(self):
+        payload = bytearray(1)
+        dct.encode(U8, b"\1", payload, 0)
+        self.grow(payload)
+        # inside the except clause the refusal still holds the frames that it came through
+        for call, arguments in [
+            (dct.encode, [U8, b"\1", payload, 0, 9]),
+            (dct.clear, [U8, payload, 0, 9]),
+            (dct.read, [U8, payload, 9, 1]),
+            (dct.decode, [U8, payload, 9]),
+        ]:
+            try:
+                call(*arguments)
+            except dct.Refusal:
+                self.grow(payload)
+        self.assertEqual(payload, b"\1" + bytes(5))
+
+    def test_read_is_a_view(self):
+        payload = bytearray(b"\1\2\3\4")
+        data = dct.read(U8, payload, 1, 2).data
+        payload[1] = 9
+        self.assertEqual(data, b"\x09\3")
+
+    def test_more_room_than_memory(self):
+        with self.assertRaises(dct.Refusal) as caught:
+            dct.decode(U8, b"\1", room=(1 << 64) - 1)
+        self.assertEqual(caught.exception.number, dct.SLICE_TOO_LONG)
+
+
+def imported(path, library=None):
+    """dct.py loaded anew from a path, with a shared object named or not."""
+    before = os.environ.pop("DCT_LIBRARY", None)
+    if library is not None:
+        os.environ["DCT_LIBRARY"] = str(library)
+    try:
+        spec = importlib.util.spec_from_file_location("dct_again", path)
+        module = importlib.util.module_from_spec(spec)
+        spec.loader.exec_module(module)
+    finally:
+        os.environ.pop("DCT_LIBRARY", None)
+        if before is not None:
+            os.environ["DCT_LIBRARY"] = before
+    return module
+
+
+class Import(unittest.TestCase):
+    """Where the shared object is looked for, and what is said where there is none."""
+
+    SOURCE = Path(dct.__file__)
+    BUILT = ROOT / "target/shared/libdct.so"
+
+    def setUp(self):
+        folder = tempfile.TemporaryDirectory()
+        self.addCleanup(folder.cleanup)
+        self.alone = Path(folder.name, "a", "b", "dct.py")
+        self.alone.parent.mkdir(parents=True)
+        shutil.copy(self.SOURCE, self.alone)
+
+    def loads(self, path, library, loaded):
+        self.assertEqual(os.path.realpath(imported(path, library)._library._name), os.path.realpath(loaded))
+
+    def test_library_found(self):
+        self.loads(self.SOURCE, None, self.BUILT)
+        self.loads(self.alone, self.BUILT, self.BUILT)
+        beside = shutil.copy(self.BUILT, self.alone.parent)
+        self.loads(self.alone, None, beside)
+        self.loads(self.alone, self.BUILT, self.BUILT)
+
+    def test_library_missing(self):
+        # none at all, a name that nothing has, no shared object, and one without the functions
+        for library in (None, "nowhere/libdct.so", self.alone, _ctypes.__file__):
+            with self.assertRaises(ImportError) as caught:
+                imported(self.alone, library)
+            said = str(caught.exception)
+            self.assertIn("'make bindings' builds it", said)
+            self.assertIn("DCT_LIBRARY names another", said)
+            self.assertNotIn("\n", said)
+
+
+class Readme(unittest.TestCase):
+    """The example of bindings/README.md."""
+
+    def test_readme_example(self):
+        (example,) = re.findall(r"^```python\n(.*?)^```$", (BINDINGS / "README.md").read_text(), re.MULTILINE | re.DOTALL)
+        self.assertIn("assert ", example)
+        exec(compile(example, "README.md", "exec"), {})
+
+
+if __name__ == "__main__":
+    unittest.main()
