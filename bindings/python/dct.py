@@ -131,10 +131,10 @@ def _found():
 
 def _loaded():
     """The shared object with its functions declared; ImportError where there is none for this machine."""
-    advice = "'make bindings' builds it, for x86-64, and DCT_LIBRARY names another"
+    advice = "'make bindings' builds libdct.so, for x86-64, and DCT_LIBRARY names another"
     path = _found()
     if path is None:
-        raise ImportError(f"dct: no shared object libdct.so here: {advice}")
+        raise ImportError(f"dct: no shared object here; {advice}")
     slice_, number, report = [ctypes.c_char_p, ctypes.c_size_t], ctypes.c_size_t, ctypes.POINTER(_Report)
     numbers = ctypes.POINTER(ctypes.c_size_t)
     takes = {
@@ -150,7 +150,7 @@ def _loaded():
             function = getattr(library, name)
             function.argtypes, function.restype = types, ctypes.c_uint32
     except (OSError, AttributeError) as error:
-        raise ImportError(f"dct: {path} cannot be used ({error}): {advice}") from None
+        raise ImportError(f"dct: {error}; {advice}") from None
     return library
 
 

@@ -1,6 +1,5 @@
 """Holds dct.py to the stored answers of the Rust, to the cases that all bindings share, to include/dct.h, and to its own promises
 on arguments."""
-import _ctypes
 import ctypes
 import functools
 import importlib.util
@@ -485,12 +484,14 @@ class Import(unittest.TestCase):
         self.loads(self.alone, self.BUILT, self.BUILT)
 
     def test_library_missing(self):
-        # none at all, a name that nothing has, no shared object, and one without the functions
-        for library in (None, "nowhere/libdct.so", self.alone, _ctypes.__file__):
+        # none at all, a name that nothing has, no shared object, and one that lacks a function
+        lacking = self.alone.with_name("lacking.so")
+        lacking.write_bytes(self.BUILT.read_bytes().replace(b"dct_read", b"dct_rest"))
+        for library in (None, "nowhere/libdct.so", self.alone, lacking):
             with self.assertRaises(ImportError) as caught:
                 imported(self.alone, library)
             said = str(caught.exception)
-            self.assertIn("'make bindings' builds it", said)
+            self.assertIn("'make bindings' builds libdct.so", said)
             self.assertIn("DCT_LIBRARY names another", said)
             self.assertNotIn("\n", said)
 
