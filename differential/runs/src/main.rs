@@ -17,7 +17,8 @@ mod tally;
 use std::process::ExitCode;
 use tally::{Tally, run};
 
-const USAGE: &str = "differential short [SEED]   the runs of about a minute
+const USAGE: &str = "differential quick [SEED]   a hundredth of these, for an emulator
+differential short [SEED]   the runs of about a minute
 differential long [SEED]    all short inputs, and over 200 million calls
 differential bench          our library beside the original, timed and counted
 differential faults         that the runs can fail: libraries with a small fault each, and where that shows
@@ -42,8 +43,15 @@ fn runs(seed: u64, every: u64, random: u64, damaged: u64, large: u64) -> bool {
 fn main() -> ExitCode {
     let words: Vec<String> = std::env::args().skip(1).collect();
     let words: Vec<&str> = words.iter().map(String::as_str).collect();
-    let seed = |word: &str| word.parse().unwrap_or_else(|_| panic!("not a seed: {word}"));
+    let seed = |word: &str| {
+        word.parse().unwrap_or_else(|_| {
+            eprintln!("differential: a seed is a number below 2^64, and '{word}' is not");
+            std::process::exit(2)
+        })
+    };
     let done = match words[..] {
+        ["quick"] => runs(1, 1_000, 200_000, 100_000, 600),
+        ["quick", word] => runs(seed(word), 1_000, 200_000, 100_000, 600),
         ["short"] => runs(1, 5, 20_000_000, 8_000_000, 4_000),
         ["short", word] => runs(seed(word), 5, 20_000_000, 8_000_000, 4_000),
         ["long"] => runs(1, 1, 150_000_000, 50_000_000, 40_000),

@@ -90,11 +90,20 @@ impl Tally {
     }
 }
 
+/// Says how far a run is, every five seconds, on the standard error.
+fn tell(name: &str, first: u64, count: u64, seconds: u64, told: &AtomicU64) {
+    let fives = seconds / 5;
+    if told.fetch_max(fives, Ordering::Relaxed) < fives {
+        eprintln!("{name}: {first} of {count} calls, {seconds} s");
+    }
+}
+
 /// Compares so many cases, on all processors, and prints the first differences and what was counted.
 pub fn run(name: &str, count: u64, make: impl Fn(u64) -> Case + Sync, library: Library) -> Tally {
     const PART: u64 = 4_096;
     let started = Instant::now();
     let next = AtomicU64::new(0);
+    let told = AtomicU64::new(0);
     let total = Mutex::new(Tally::new());
     let work = || {
         let mut tally = Tally::new();
@@ -103,6 +112,7 @@ pub fn run(name: &str, count: u64, make: impl Fn(u64) -> Case + Sync, library: L
             if first >= count {
                 break;
             }
+            tell(name, first, count, started.elapsed().as_secs(), &told);
             for number in first..count.min(first + PART) {
                 let said = tally.compare(&make(number), library);
                 if let Some(said) = said.filter(|_| tally.differences <= 3) {
