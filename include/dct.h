@@ -2,8 +2,8 @@
  *
  * Every call gets an answer or a numbered refusal. A refusal leaves the payload, its used length and the output as they came.
  *
- * A record is 16 bytes that describe a field (docs/RECORDS.md tells what each says); a store holds the masks and key names
- * that records speak of. Both stand in a stored table, where dct_fetch finds them.
+ * A record is 16 bytes that describe a field (the project's docs/RECORDS.md tells what each says); a store holds the masks and
+ * key names that records speak of. Both stand in a stored table, where dct_fetch finds them.
  *
  * What the caller owes, since nothing can test it:
  *   - each pointer holds what the length after it says, and is not null, not even where that length is 0;

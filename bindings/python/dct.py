@@ -131,7 +131,7 @@ def _found():
 
 def _loaded():
     """The shared object with its functions declared; ImportError where there is none for this machine."""
-    advice = "'make bindings' builds libdct.so, for x86-64, and DCT_LIBRARY names another"
+    advice = "'bindings/shared' builds libdct.so, for x86-64, and DCT_LIBRARY names another"
     path = _found()
     if path is None:
         raise ImportError(f"dct: no shared object here; {advice}")

@@ -491,7 +491,7 @@ class Import(unittest.TestCase):
             with self.assertRaises(ImportError) as caught:
                 imported(self.alone, library)
             said = str(caught.exception)
-            self.assertIn("'make bindings' builds libdct.so", said)
+            self.assertIn("'bindings/shared' builds libdct.so", said)
             self.assertIn("DCT_LIBRARY names another", said)
             self.assertNotIn("\n", said)
 
