@@ -1,4 +1,4 @@
--- Bits of bytes: bytes are what their bits make, and equal where they agree on every bit. Assumes nothing.
+-- Bits of bytes: bytes are what their bits make, and equal where they agree on every bit.
 use mathlib.Core.Path.{_≡_, refl, sym, ap, ap₂, _∙_}
 use mathlib.Core.Logic.{_⊎_, ⊎-elim}
 use mathlib.Core.List.{List, [], _∷_}

@@ -1,4 +1,4 @@
--- The bits of `first`, `raised`, `either`, `within` and `overlaid`, place by place. Assumes nothing.
+-- The bits of `first`, `raised`, `either`, `within` and `overlaid`, place by place.
 use mathlib.Core.Path.{_≡_, sym, ap, _∙_}
 use mathlib.Core.Logic.{_⊎_, ⊎-elim}
 use mathlib.Core.Bool.{Bool, true, false, cond, _&&_}

@@ -1,4 +1,4 @@
--- Bits of a number, and numbers made of bits. Assumes nothing.
+-- Bits of a number, and numbers made of bits.
 use mathlib.Core.Path.{_≡_, refl, sym, ap, ap₂, _∙_}
 use mathlib.Core.Bool.{cond}
 use Prim.Native.Nat.{ℕ, zero, suc, _+_, _-_, _*_, _/_, _%_, _^_, _<_, min, max}

@@ -1,4 +1,4 @@
--- Bytes that are cut or turned are bytes, and the bits of bytes that are joined, repeated or cut. Assumes nothing.
+-- Bytes that are cut or turned are bytes, and the bits of bytes that are joined, repeated or cut.
 use mathlib.Core.Path.{_≡_, refl, sym, ap, _∙_}
 use mathlib.Core.Logic.{⊎-elim}
 use mathlib.Core.List.{List, [], _∷_, _++_}

@@ -1,4 +1,4 @@
--- A loop that writes bits one after the other: nothing yet, one bit more, all. Assumes nothing.
+-- A loop that writes bits one after the other: nothing yet, one bit more, all.
 use mathlib.Core.Path.{_≡_, sym, ap, _∙_}
 use mathlib.Core.Logic.{_⊎_, ⊎-elim}
 use mathlib.Core.Bool.{Bool, true, false, cond}

@@ -1,4 +1,4 @@
--- Stores of one byte as changes of one bit: what `bit_at` reads and `set_bit_checked` writes. Assumes nothing.
+-- Stores of one byte as changes of one bit: what `bit_at` reads and `set_bit_checked` writes.
 use mathlib.Core.Path.{_≡_, refl, sym, ap, ap₂, _∙_}
 use mathlib.Core.Logic.{_⊎_, inl, inr, ⊎-elim}
 use mathlib.Core.Bool.{Bool, true, false, cond}

@@ -1,4 +1,4 @@
--- Bits that are taken from bytes, ORed into bytes, or put in place of others. Assumes nothing.
+-- Bits that are taken from bytes, ORed into bytes, or put in place of others.
 use Prim.Native.Nat.{ℕ, _+_, _-_, max}
 use mathlib.Core.Bool.{Bool, cond, _&&_}
 use mathlib.Core.List.{List}

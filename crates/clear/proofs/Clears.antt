@@ -1,4 +1,4 @@
--- A clear: a law for each way to its answer. Assumes nothing.
+-- A clear: a law for each way to its answer.
 use mathlib.Core.Path.{_≡_, sym, _∙_}
 use mathlib.Core.Bool.{true, false}
 use mathlib.Core.List.{List}

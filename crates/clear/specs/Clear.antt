@@ -1,4 +1,4 @@
--- Document 01, 'Encode and clear': the whole answer of a clear. Assumes nothing.
+-- Document 01, 'Encode and clear': the whole answer of a clear.
 use Prim.Native.Nat.{ℕ}
 use mathlib.Core.List.{List, [], _∷_}
 use lib.ListN.{length}

@@ -1,4 +1,4 @@
--- 12, 13, 10 and 11 are not 30. Assumes nothing.
+-- 12, 13, 10 and 11 are not 30.
 use mathlib.Core.Path.{_≡_, refl}
 use mathlib.Core.Bool.{false}
 use lib.Dec.{eqb}

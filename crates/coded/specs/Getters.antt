@@ -1,4 +1,4 @@
--- What the small getters of a coded type give. Assumes nothing.
+-- What the small getters of a coded type give.
 use Rattle.coded.specs.declared.variants.OptionalPlace.{OptionalPlace}
 use Rattle.coded.specs.declared.variants.OptionalPlace.the-variants.{At, Absent}
 use Rattle.coded.specs.declared.variants.OptionalBitLength.{OptionalBitLength}

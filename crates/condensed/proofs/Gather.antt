@@ -1,4 +1,4 @@
--- Bits gathered through a condensed mask: none yet, one more, and how many. Assumes nothing.
+-- Bits gathered through a condensed mask: none yet, one more, and how many.
 use mathlib.Core.Path.{_≡_, refl, sym, ap, _∙_}
 use mathlib.Core.Logic.{⊎-elim}
 use mathlib.Core.Bool.{Bool, true, false, cond}

@@ -1,4 +1,4 @@
--- The ones of a mask, byte by byte and bit by bit. Assumes nothing.
+-- The ones of a mask, byte by byte and bit by bit.
 use mathlib.Core.Path.{_≡_, ap}
 use mathlib.Core.Logic.{⊎-elim}
 use mathlib.Core.List.{List}

@@ -1,4 +1,4 @@
--- The source of a condensed write: its bits, one after the other. Assumes nothing.
+-- The source of a condensed write: its bits, one after the other.
 use mathlib.Core.Path.{_≡_, _∙_}
 use mathlib.Core.Logic.{⊎-elim}
 use mathlib.Core.Bool.{cond}

@@ -1,4 +1,4 @@
--- How many bits a condensed reading gathers, and how many bytes it gives. Assumes nothing.
+-- How many bits a condensed reading gathers, and how many bytes it gives.
 use mathlib.Core.Path.{_≡_, refl, sym, ap, ap₂, _∙_}
 use mathlib.Core.Logic.{⊎-elim}
 use mathlib.Core.Bool.{cond}

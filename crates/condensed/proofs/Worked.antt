@@ -1,4 +1,4 @@
--- Worked examples of condensed masks, as one table that the checker computes. Letters are document 01's bench cases. Assumes nothing.
+-- Worked examples of condensed masks, as one table that the checker computes. Letters are document 01's bench cases.
 use mathlib.Core.Path.{_≡_, refl}
 use mathlib.Core.Bool.{true}
 use mathlib.Core.List.{List, [], _∷_}

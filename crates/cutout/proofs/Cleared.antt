@@ -1,4 +1,4 @@
--- Owned bits that are cleared, as a mask clears them. Assumes nothing.
+-- Owned bits that are cleared, as a mask clears them.
 use mathlib.Core.Path.{_≡_, refl, ap, _∙_}
 use mathlib.Core.Bool.{cond}
 use mathlib.Core.List.{List, [], _∷_}

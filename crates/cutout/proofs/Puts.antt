@@ -1,4 +1,4 @@
--- What calls leave of a cut-out: a source put into it, and its order turned back. Assumes nothing.
+-- What calls leave of a cut-out: a source put into it, and its order turned back.
 use mathlib.Core.Path.{_≡_, sym, ap, ap₂, _∙_}
 use mathlib.Core.List.{List}
 use Prim.Native.Nat.{ℕ, _*_}

@@ -1,4 +1,4 @@
--- The two ways through a call that takes a record: refused before there is a coded type, and made with it. Assumes nothing.
+-- The two ways through a call that takes a record: refused before there is a coded type, and made with it.
 use mathlib.Core.Path.{_≡_, sym, ap, _∙_, subst}
 use mathlib.Core.List.{List}
 use Prim.Native.Nat.{ℕ}

@@ -1,4 +1,4 @@
--- What C sees of each call: the same answers, of the coded type that a record says. Assumes nothing.
+-- What C sees of each call: the same answers, of the coded type that a record says.
 use Prim.Native.Nat.{ℕ}
 use mathlib.Core.Bool.{cond}
 use mathlib.Core.List.{List, [], _∷_}

@@ -1,4 +1,4 @@
--- A part of the payload handed back: a law for each way to the answer. Assumes nothing.
+-- A part of the payload handed back: a law for each way to the answer.
 use mathlib.Core.Path.{_≡_}
 use mathlib.Core.Bool.{false}
 use mathlib.Core.List.{List, [], _∷_}

@@ -1,4 +1,4 @@
--- Document 01, 'Decode': the whole answer of a decode. Assumes nothing.
+-- Document 01, 'Decode': the whole answer of a decode.
 use Prim.Native.Nat.{ℕ}
 use mathlib.Core.List.{List}
 use lib.ListN.{length}

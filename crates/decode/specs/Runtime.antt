@@ -1,4 +1,4 @@
--- Document 01, 'Decode': the read with a byte count given at run time. Assumes nothing.
+-- Document 01, 'Decode': the read with a byte count given at run time.
 use Prim.Native.Nat.{ℕ, _*_}
 use mathlib.Core.Bool.{cond, not, _&&_}
 use mathlib.Core.List.{List, [], _∷_}

@@ -1,4 +1,4 @@
--- An encode: what is refused before its own rules, and what is answered by these. Assumes nothing.
+-- An encode: what is refused before its own rules, and what is answered by these.
 use mathlib.Core.Path.{_≡_, sym, ap, _∙_}
 use mathlib.Core.List.{List}
 use Prim.Native.Nat.{ℕ}

@@ -1,4 +1,4 @@
--- Document 01, 'Encode and clear': the whole answer of an encode. Assumes nothing.
+-- Document 01, 'Encode and clear': the whole answer of an encode.
 use Prim.Native.Nat.{ℕ}
 use mathlib.Core.List.{List}
 use lib.ListN.{length}

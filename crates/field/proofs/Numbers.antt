@@ -1,4 +1,4 @@
--- What is refused before a call's own rules is not 30, and what follows where nothing is. Assumes nothing.
+-- What is refused before a call's own rules is not 30, and what follows where nothing is.
 use mathlib.Core.Path.{_≡_, refl}
 use mathlib.Core.Bool.{false}
 use Prim.Native.Nat.{ℕ, _≤_}

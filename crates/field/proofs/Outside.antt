@@ -1,4 +1,4 @@
--- Whether a part ends past a store, told without a sum that could wrap, and how long a part is. Assumes nothing.
+-- Whether a part ends past a store, told without a sum that could wrap, and how long a part is.
 use mathlib.Core.Path.{_≡_, sym, _∙_}
 use mathlib.Core.Logic.{⊎-elim}
 use Prim.Native.Nat.{ℕ, _+_, _-_, _<_, _≤_}

@@ -1,4 +1,4 @@
--- What matters of a coded type, with the contents of its mask in place of where the store has it. Assumes nothing.
+-- What matters of a coded type, with the contents of its mask in place of where the store has it.
 use Prim.Native.Nat.{ℕ, _+_}
 use mathlib.Core.Bool.{Bool, cond}
 use mathlib.Core.List.{List, []}

@@ -1,4 +1,4 @@
--- The name of the parameter that gives a field's length, with the number of what is refused before. Assumes nothing.
+-- The name of the parameter that gives a field's length, with the number of what is refused before.
 use Prim.Native.Nat.{ℕ}
 use mathlib.Core.Bool.{cond}
 use mathlib.Core.List.{List, []}

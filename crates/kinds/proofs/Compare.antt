@@ -1,4 +1,4 @@
--- Two numbers compared: the ways to take a proof apart. Assumes nothing.
+-- Two numbers compared: the ways to take a proof apart.
 use mathlib.Core.Path.{_≡_}
 use mathlib.Core.Logic.{_⊎_, inl, inr}
 use Prim.Native.Nat.{ℕ, _≤_, _<_}

@@ -1,4 +1,4 @@
--- Tables of worked examples: what definitions give beside what they should, as one test that the checker computes. Assumes nothing.
+-- Tables of worked examples: what definitions give beside what they should, as one test that the checker computes.
 use mathlib.Core.Bool.{Bool, true, false, _&&_}
 use mathlib.Core.List.{List, [], _∷_}
 use Prim.Native.Nat.{ℕ}

@@ -1,4 +1,4 @@
--- What is made or refused, where no refusal is 30: its number then says all of it. Assumes nothing.
+-- What is made or refused, where no refusal is 30: its number then says all of it.
 use mathlib.Core.Path.{_≡_}
 use mathlib.Core.Bool.{Bool, true, false, cond}
 use Prim.Native.Nat.{ℕ}

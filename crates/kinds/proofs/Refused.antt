@@ -1,4 +1,4 @@
--- The laws of the table of refusals, row by row. Assumes nothing.
+-- The laws of the table of refusals, row by row.
 use mathlib.Core.Path.{_≡_, refl, sym}
 use mathlib.Core.Bool.{false, true≢false}
 use mathlib.Core.List.{List, [], _∷_}

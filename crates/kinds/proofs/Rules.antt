@@ -1,4 +1,4 @@
--- Numbers that rules never give, and what follows where they give none and tests fail. Assumes nothing.
+-- Numbers that rules never give, and what follows where they give none and tests fail.
 use mathlib.Core.Path.{_≡_, refl}
 use mathlib.Core.Logic.{⊎-elim}
 use mathlib.Core.Bool.{Bool, true, false, cond, _||_, true≢false}

@@ -1,4 +1,4 @@
--- Document 01, 'Refusal numbers': what each refusal and each answer reports. Assumes nothing.
+-- Document 01, 'Refusal numbers': what each refusal and each answer reports.
 use Prim.Native.Nat.{ℕ}
 use mathlib.Core.Bool.{cond}
 use lib.Dec.{eqb}

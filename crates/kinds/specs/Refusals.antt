@@ -1,4 +1,4 @@
--- Document 01, rows 20 to 25 of the refusals, in the order of its paragraph 'Order'. Assumes nothing.
+-- Document 01, rows 20 to 25 of the refusals, in the order of its paragraph 'Order'.
 use Prim.Native.Nat.{ℕ, _%_}
 use mathlib.Core.Bool.{not, _&&_}
 use mathlib.Core.List.{[], _∷_}

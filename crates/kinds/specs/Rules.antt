@@ -1,4 +1,4 @@
--- Rules in an order: the first whose test holds gives its number. Assumes nothing.
+-- Rules in an order: the first whose test holds gives its number.
 use Prim.Native.Nat.{ℕ}
 use mathlib.Core.Bool.{Bool, cond}
 use mathlib.Core.List.{List, [], _∷_}

@@ -1,4 +1,4 @@
--- Positions in a slice: document 01's sums, and the bytes at a place. Assumes nothing.
+-- Positions in a slice: document 01's sums, and the bytes at a place.
 use Prim.Native.Nat.{ℕ, _+_, min}
 use mathlib.Core.List.{List}
 use lib.ListN.{take, drop}

@@ -1,4 +1,4 @@
--- A length field as a number, and what is found behind it. Assumes nothing.
+-- A length field as a number, and what is found behind it.
 use mathlib.Core.Path.{_≡_, refl, sym, ap, ap₂, _∙_}
 use mathlib.Core.Logic.{⊎-elim}
 use mathlib.Core.List.{List}

@@ -1,4 +1,4 @@
--- Document 01, 'Decode', Leading. Assumes nothing.
+-- Document 01, 'Decode', Leading.
 use Prim.Native.Nat.{ℕ, zero, suc, _+_, _*_}
 use mathlib.Core.Bool.{cond, _||_}
 use mathlib.Core.List.{List, [], _∷_}

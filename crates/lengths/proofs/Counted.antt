@@ -1,4 +1,4 @@
--- The mask that counts in a write. Assumes nothing.
+-- The mask that counts in a write.
 use mathlib.Core.Path.{_≡_, refl}
 use mathlib.Core.List.{List}
 use Prim.Native.Nat.{ℕ}

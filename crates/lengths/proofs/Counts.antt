@@ -1,4 +1,4 @@
--- What a leading length refuses, a law for each way through its rules. Assumes nothing.
+-- What a leading length refuses, a law for each way through its rules.
 use mathlib.Core.Path.{_≡_}
 use Prim.Native.Nat.{ℕ, _/_, _^_, _≤_, _<_}
 use native.Mathlib.Omega.{arith}

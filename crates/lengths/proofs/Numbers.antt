@@ -1,4 +1,4 @@
--- What encode and clear refuse for a variant's sake is not 30. Assumes nothing.
+-- What encode and clear refuse for a variant's sake is not 30.
 use mathlib.Core.Path.{_≡_}
 use mathlib.Core.Bool.{false}
 use Prim.Native.Nat.{ℕ}

@@ -1,4 +1,4 @@
--- Bits under a plain mask: what the code reads of it, and the bit that a loop comes to. Assumes nothing.
+-- Bits under a plain mask: what the code reads of it, and the bit that a loop comes to.
 use mathlib.Core.Path.{_≡_, ap, _∙_}
 use mathlib.Core.List.{List}
 use Prim.Native.Nat.{ℕ, _+_, _-_, _*_, _/_, _%_, _^_, _<_}

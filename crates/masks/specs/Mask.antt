@@ -1,4 +1,4 @@
--- A mask with its use. Assumes nothing.
+-- A mask with its use.
 use Prim.Native.Nat.{ℕ}
 use mathlib.Core.Bool.{Bool, true, false}
 use mathlib.Core.List.{List}

@@ -1,4 +1,4 @@
--- Runs of bytes of which pairs are exchanged in place, from none to all. Assumes nothing.
+-- Runs of bytes of which pairs are exchanged in place, from none to all.
 use mathlib.Core.Path.{_≡_, refl, sym, ap, _∙_}
 use mathlib.Core.Logic.{⊎-elim}
 use mathlib.Core.List.{List, reverse}

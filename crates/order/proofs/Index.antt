@@ -1,4 +1,4 @@
--- The index rule of the ordered form: which byte of the run stands at j. Assumes nothing.
+-- The index rule of the ordered form: which byte of the run stands at j.
 use mathlib.Core.Path.{_≡_, refl, sym, ap, _∙_}
 use mathlib.Core.Logic.{⊎-elim}
 use mathlib.Core.Bool.{cond}

@@ -1,4 +1,4 @@
--- The clear law: what a clear makes of each bit of a payload. Assumes nothing.
+-- The clear law: what a clear makes of each bit of a payload.
 use mathlib.Core.Path.{_≡_, refl, _∙_}
 use mathlib.Core.Bool.{Bool, true, false, cond}
 use mathlib.Core.List.{List}

@@ -1,4 +1,4 @@
--- Two writes that own no bit in common go in either order. Assumes nothing.
+-- Two writes that own no bit in common go in either order.
 use mathlib.Core.Path.{_≡_, refl, sym, _∙_}
 use mathlib.Core.Bool.{Bool, true, false, cond}
 use mathlib.Core.List.{List}

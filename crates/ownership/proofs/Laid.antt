@@ -1,4 +1,4 @@
--- Bits that are laid into zero bytes through a cut-out stand each at its place in the payload, the owned ones and a source's. Assumes nothing.
+-- Bits that are laid into zero bytes through a cut-out stand each at its place in the payload, the owned ones and a source's.
 use mathlib.Core.Path.{_≡_, refl, _∙_}
 use mathlib.Core.Bool.{Bool, cond}
 use mathlib.Core.List.{List}

@@ -1,4 +1,4 @@
--- Ordering moves whole bytes: which bit of a run stands at bit m of its ordered form. Assumes nothing.
+-- Ordering moves whole bytes: which bit of a run stands at bit m of its ordered form.
 use mathlib.Core.Path.{_≡_, sym, ap, _∙_}
 use mathlib.Core.Logic.{⊎-elim}
 use mathlib.Core.List.{List}

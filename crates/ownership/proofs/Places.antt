@@ -1,4 +1,4 @@
--- A change that treats each bit of an ordered cut-out by itself treats each bit of the payload by itself. Assumes nothing.
+-- A change that treats each bit of an ordered cut-out by itself treats each bit of the payload by itself.
 use mathlib.Core.Path.{_≡_, sym, ap, _∙_}
 use mathlib.Core.Logic.{⊎-elim}
 use mathlib.Core.Bool.{Bool, cond}

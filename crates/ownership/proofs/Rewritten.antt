@@ -1,4 +1,4 @@
--- What is written after a clear stands in the ordered cut-out: each owned bit is the source's, masked or not. Assumes nothing.
+-- What is written after a clear stands in the ordered cut-out: each owned bit is the source's, masked or not.
 use mathlib.Core.Path.{_≡_, ap, _∙_}
 use mathlib.Core.List.{List, _++_}
 use Prim.Native.Nat.{ℕ, _+_, _-_, _≤_, _<_}

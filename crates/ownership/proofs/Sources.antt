@@ -1,4 +1,4 @@
--- What a Standard field writes is bits, and zero under mask zeros. Assumes nothing.
+-- What a Standard field writes is bits, and zero under mask zeros.
 use mathlib.Core.Path.{_≡_, _∙_}
 use mathlib.Core.Bool.{not, _&&_}
 use mathlib.Core.List.{List}

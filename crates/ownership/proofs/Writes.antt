@@ -1,4 +1,4 @@
--- The write law: what a write makes of each bit of a payload, whatever bits it writes. Assumes nothing.
+-- The write law: what a write makes of each bit of a payload, whatever bits it writes.
 use mathlib.Core.Path.{_≡_, refl, _∙_}
 use mathlib.Core.Logic.{⊎-elim}
 use mathlib.Core.Bool.{Bool, true, false, cond}

@@ -1,5 +1,5 @@
 -- Document 01, 'Encode and clear': what a write and a clear make of a payload that reaches past the cut-out, and of each bit of it. The laws
--- speak of these; demand 3's statement does not need them. Assumes nothing.
+-- speak of these; demand 3's statement does not need them.
 use Prim.Native.Nat.{ℕ, max}
 use mathlib.Core.Bool.{cond}
 use mathlib.Core.List.{List}

@@ -1,4 +1,4 @@
--- Packed data: a law for each way to a bit, that they are bits, and the description that the code makes of its values. Assumes nothing.
+-- Packed data: a law for each way to a bit, that they are bits, and the description that the code makes of its values.
 use mathlib.Core.Path.{_≡_}
 use mathlib.Core.Bool.{Bool, cond, _&&_, and-false}
 use mathlib.Core.List.{List}

@@ -1,5 +1,5 @@
 -- What the code reads by index is the source, with the same size and mask and the same bits below that size, and a field's packing keeps
--- its bounds. Assumes nothing.
+-- its bounds.
 use mathlib.Core.Path.{_≡_, refl, sym, ap, ap₂, _∙_}
 use mathlib.Core.Logic.{⊎-elim}
 use mathlib.Core.Bool.{Bool, true, false, cond, not, _&&_}

@@ -1,4 +1,4 @@
--- How the code describes a source of which nothing is copied; no part of document 01. Assumes nothing.
+-- How the code describes a source of which nothing is copied; no part of document 01.
 use Prim.Native.Nat.{ℕ, _-_, _*_, _%_, min}
 use mathlib.Core.Bool.{Bool, cond, _&&_}
 use mathlib.Core.List.{List}

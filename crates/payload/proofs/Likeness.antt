@@ -1,4 +1,4 @@
--- Sources that are written alike give the same payload. Assumes nothing.
+-- Sources that are written alike give the same payload.
 use mathlib.Core.Path.{_≡_, ap, _∙_}
 use mathlib.Core.List.{List}
 use Prim.Native.Nat.{ℕ, max}

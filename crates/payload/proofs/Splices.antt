@@ -1,4 +1,4 @@
--- A part of a payload that is changed, and the rest that stays. Assumes nothing.
+-- A part of a payload that is changed, and the rest that stays.
 use mathlib.Core.Path.{_≡_}
 use mathlib.Core.List.{List, []}
 use Prim.Native.Nat.{ℕ}

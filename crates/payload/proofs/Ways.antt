@@ -1,4 +1,4 @@
--- An encode or a clear: a law for each way to its answer. Assumes nothing.
+-- An encode or a clear: a law for each way to its answer.
 use mathlib.Core.Path.{_≡_, sym, ap, _∙_}
 use mathlib.Core.Bool.{false}
 use mathlib.Core.List.{List, _++_}

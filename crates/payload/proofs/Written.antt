@@ -1,4 +1,4 @@
--- What the calls of a write leave: a payload that is grown, and a cut-out put back into it. Assumes nothing.
+-- What the calls of a write leave: a payload that is grown, and a cut-out put back into it.
 use mathlib.Core.Path.{_≡_, refl, sym}
 use mathlib.Core.List.{List, _++_}
 use Prim.Native.Nat.{ℕ, _-_, _≤_, max}

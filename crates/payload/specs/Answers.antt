@@ -1,4 +1,4 @@
--- Document 01, 'Refusal numbers': what an encode or a clear answers, and what becomes of the payload. Assumes nothing.
+-- Document 01, 'Refusal numbers': what an encode or a clear answers, and what becomes of the payload.
 use Prim.Native.Nat.{ℕ}
 use mathlib.Core.Bool.{cond}
 use mathlib.Core.List.{List}

@@ -1,4 +1,4 @@
--- Document 01, 'Encode and clear': the cut-out in the payload, growth, and what a write or a clear answers. Assumes nothing.
+-- Document 01, 'Encode and clear': the cut-out in the payload, growth, and what a write or a clear answers.
 use Prim.Native.Nat.{ℕ, _+_, _-_, max}
 use mathlib.Core.Bool.{cond}
 use mathlib.Core.List.{List, [], _∷_, _++_}

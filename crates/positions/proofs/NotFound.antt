@@ -1,4 +1,4 @@
--- A check's refusal, handed on as a place that was not found. Assumes nothing.
+-- A check's refusal, handed on as a place that was not found.
 use mathlib.Core.Path.{_≡_, ap, sym}
 use mathlib.Core.Bool.{false}
 use Prim.Native.Nat.{ℕ}

@@ -1,4 +1,4 @@
--- Where data bytes are, or what the search for them reports. Assumes nothing.
+-- Where data bytes are, or what the search for them reports.
 use Prim.Native.Nat.{ℕ}
 use mathlib.Core.Bool.{cond}
 use lib.Dec.{eqb}

@@ -1,4 +1,4 @@
--- Data bytes: eight bits each, read whole. Assumes nothing.
+-- Data bytes: eight bits each, read whole.
 use mathlib.Core.Path.{_≡_, refl, sym, _∙_}
 use mathlib.Core.Logic.{⊎-elim}
 use mathlib.Core.List.{List, []}

@@ -1,4 +1,4 @@
--- What is read at the place that each variant names is what the variant finds. Assumes nothing.
+-- What is read at the place that each variant names is what the variant finds.
 use mathlib.Core.Path.{_≡_, refl, sym, ap, _∙_}
 use mathlib.Core.Logic.{⊎-elim}
 use mathlib.Core.Bool.{Bool, true, false, cond, _&&_}

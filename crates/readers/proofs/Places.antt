@@ -1,4 +1,4 @@
--- A reading at a place: a law for each way to its answer. Assumes nothing.
+-- A reading at a place: a law for each way to its answer.
 use mathlib.Core.Path.{_≡_, refl, sym, ap, _∙_}
 use mathlib.Core.List.{List}
 use Prim.Native.Nat.{ℕ, _-_, _≤_, _<_}

@@ -1,4 +1,4 @@
--- Document 01, 'Decode': what each variant finds in the payload, after its refusals in the order of 'Order'. Assumes nothing.
+-- Document 01, 'Decode': what each variant finds in the payload, after its refusals in the order of 'Order'.
 use Prim.Native.Nat.{ℕ, _-_, _*_}
 use mathlib.Core.Bool.{cond, _&&_}
 use mathlib.Core.List.{List, [], _∷_}

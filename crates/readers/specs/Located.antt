@@ -1,4 +1,4 @@
--- What is read at a place that was found; no part of document 01, but of how the code goes. Assumes nothing.
+-- What is read at a place that was found; no part of document 01, but of how the code goes.
 use Prim.Native.Nat.{ℕ}
 use mathlib.Core.Bool.{cond}
 use mathlib.Core.List.{List}

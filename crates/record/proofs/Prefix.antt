@@ -1,4 +1,4 @@
--- What is refused of a record, or of the sizes of the call that takes it, is not 30. Assumes nothing.
+-- What is refused of a record, or of the sizes of the call that takes it, is not 30.
 use mathlib.Core.Path.{refl}
 use mathlib.Core.List.{List}
 use Prim.Native.Nat.{ℕ}

@@ -1,4 +1,4 @@
--- Document 01, 'Stored table': the numbers of a record, big-endian. Assumes nothing.
+-- Document 01, 'Stored table': the numbers of a record, big-endian.
 use Prim.Native.Nat.{ℕ, _+_, _*_, _/_, _%_}
 use mathlib.Core.List.{List}
 use lib.ListN.{getD}

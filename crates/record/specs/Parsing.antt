@@ -1,5 +1,5 @@
 -- Document 01, 'Stored table': the coded type that the numbers of a record say, if they say one. What a variant lacks, or an unset
--- flag says is absent, is 0, other flag bits too. Assumes nothing.
+-- flag says is absent, is 0, other flag bits too.
 use Prim.Native.Nat.{ℕ}
 use mathlib.Core.Bool.{Bool, cond, not, _||_, _&&_}
 use lib.Dec.{eqb}

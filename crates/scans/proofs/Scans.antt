@@ -1,4 +1,4 @@
--- Where data bytes between limits end: the steps of a scan, how far it goes, and what is found by its end. Assumes nothing.
+-- Where data bytes between limits end: the steps of a scan, how far it goes, and what is found by its end.
 use mathlib.Core.Path.{_≡_}
 use mathlib.Core.Bool.{Bool, true, false, cond, _&&_}
 use mathlib.Core.List.{List, [], _∷_}

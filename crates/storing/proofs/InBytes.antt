@@ -1,4 +1,4 @@
--- The numbers of a record stand in its bytes, and its bytes in its numbers. Assumes nothing.
+-- The numbers of a record stand in its bytes, and its bytes in its numbers.
 use mathlib.Core.Path.{_≡_, refl, ap}
 use mathlib.Core.Bool.{Bool, true, false}
 use mathlib.Core.List.{List, [], _∷_}

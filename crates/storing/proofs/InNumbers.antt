@@ -1,4 +1,4 @@
--- A coded type is what its numbers say, and no other numbers say it. Assumes nothing.
+-- A coded type is what its numbers say, and no other numbers say it.
 use mathlib.Core.Path.{_≡_, refl, sym, subst}
 use mathlib.Core.Bool.{Bool, true, false, cond, not, _||_, _&&_}
 use Prim.Native.Nat.{ℕ}

@@ -1,4 +1,4 @@
--- Each legal record has one coded type, and each coded type one record. Assumes nothing.
+-- Each legal record has one coded type, and each coded type one record.
 use mathlib.Core.Path.{_≡_, refl, sym, ap, _∙_}
 use mathlib.Core.List.{List, []}
 use Prim.Native.Nat.{ℕ, _≤_, _<_, _^_}

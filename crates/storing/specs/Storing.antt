@@ -1,4 +1,4 @@
--- Document 01, 'Stored table': the record of a coded type. Assumes nothing.
+-- Document 01, 'Stored table': the record of a coded type.
 use Prim.Native.Nat.{ℕ, _+_, _*_, _/_, _%_}
 use mathlib.Core.Bool.{Bool, true, false, cond, _||_}
 use mathlib.Core.List.{List, [], _∷_}

@@ -1,4 +1,4 @@
--- A fetch looks at the size of a table, its header and one record: tables that agree there give the same. Assumes nothing.
+-- A fetch looks at the size of a table, its header and one record: tables that agree there give the same.
 use mathlib.Core.Path.{_≡_, refl, ap, ap₂, _∙_}
 use mathlib.Core.Bool.{cond}
 use mathlib.Core.List.{List}

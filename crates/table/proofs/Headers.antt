@@ -1,4 +1,4 @@
--- What a valid header says of its table. Assumes nothing.
+-- What a valid header says of its table.
 use mathlib.Core.Path.{_≡_, refl, sym, subst}
 use mathlib.Core.Bool.{Bool, true, false, cond, not, _||_}
 use mathlib.Core.List.{List}

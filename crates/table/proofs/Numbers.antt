@@ -1,4 +1,4 @@
--- What a fetch refuses is not 30. Assumes nothing.
+-- What a fetch refuses is not 30.
 use mathlib.Core.Path.{refl}
 use mathlib.Core.List.{List}
 use Prim.Native.Nat.{ℕ}

@@ -1,4 +1,4 @@
--- Document 01, 'Stored table': the header, and the record with a number. Assumes nothing.
+-- Document 01, 'Stored table': the header, and the record with a number.
 use Prim.Native.Nat.{ℕ, _+_, _*_}
 use mathlib.Core.Bool.{Bool, cond, not, _&&_, _||_}
 use mathlib.Core.List.{List}

@@ -1,4 +1,4 @@
--- An answer from what is found, a law for each way to it. Assumes nothing.
+-- An answer from what is found, a law for each way to it.
 use mathlib.Core.Path.{_≡_, refl, sym, ap, ap₂, _∙_}
 use mathlib.Core.Logic.{⊎-elim}
 use mathlib.Core.Bool.{false}

@@ -1,4 +1,4 @@
--- How many bytes are taken from a field's cut, and how many bits are counted. Assumes nothing.
+-- How many bytes are taken from a field's cut, and how many bits are counted.
 use mathlib.Core.Path.{_≡_, refl, sym, ap, _∙_}
 use mathlib.Core.Bool.{Bool, true, false}
 use mathlib.Core.List.{List}

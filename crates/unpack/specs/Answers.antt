@@ -1,4 +1,4 @@
--- Document 01, 'Refusal numbers': what a reading answers, and what becomes of the output. Assumes nothing.
+-- Document 01, 'Refusal numbers': what a reading answers, and what becomes of the output.
 use Prim.Native.Nat.{ℕ}
 use mathlib.Core.Bool.{cond}
 use mathlib.Core.List.{List, [], _∷_, _++_}

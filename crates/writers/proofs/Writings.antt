@@ -1,4 +1,4 @@
--- What a variant's calls leave, put together, is its whole answer. Assumes nothing.
+-- What a variant's calls leave, put together, is its whole answer.
 use mathlib.Core.Path.{_≡_, refl, sym, _∙_}
 use mathlib.Core.Bool.{Bool, true, false, cond, _&&_}
 use mathlib.Core.List.{List, append-nil}

@@ -1,4 +1,4 @@
--- Document 01, 'Encode and clear': what each variant answers. Assumes nothing.
+-- Document 01, 'Encode and clear': what each variant answers.
 use Prim.Native.Nat.{ℕ}
 use mathlib.Core.Bool.{Bool, cond}
 use mathlib.Core.List.{List}

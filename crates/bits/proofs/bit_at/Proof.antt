@@ -1,4 +1,4 @@
--- `bits::bit_at` meets its contract. Assumes nothing.
+-- `bits::bit_at` meets its contract.
 use Rattle.bits.proofs.Stores.{bitAt-code}
 use borrow.Author.Needs.{needs}
 use Rattle.bits.proofs.bit_at.Statement.{statement}

@@ -1,4 +1,4 @@
--- `bits::extract_bits` meets its contract. The loop's invariant: the result holds the first i bits. Assumes nothing.
+-- `bits::extract_bits` meets its contract. The loop's invariant: the result holds the first i bits.
 use Prim.Native.Nat.{ℕ, _-_, _≤_}
 use mathlib.Core.Path.{_≡_, _∙_, ap₂}
 use lib.ListN.{length}

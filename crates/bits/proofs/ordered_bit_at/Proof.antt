@@ -1,4 +1,4 @@
--- `bits::ordered_bit_at` meets its contract. Assumes nothing.
+-- `bits::ordered_bit_at` meets its contract.
 use Rattle.bits.proofs.Stores.{ordered-code}
 use borrow.Author.Needs.{needs}
 use Rattle.bits.proofs.ordered_bit_at.Statement.{statement}

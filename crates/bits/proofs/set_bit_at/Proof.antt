@@ -1,4 +1,4 @@
--- `bits::set_bit_at` meets its contract. Assumes nothing.
+-- `bits::set_bit_at` meets its contract.
 use mathlib.Core.Path.{_∙_}
 use Rattle.bits.proofs.Stores.{set-bit-at}
 use borrow.Author.Needs.{needs}

@@ -1,4 +1,4 @@
--- `bits::set_bit_checked` meets its contract. Assumes nothing.
+-- `bits::set_bit_checked` meets its contract.
 use mathlib.Core.Path.{sym}
 use mathlib.Core.Logic.{inl, inr, ⊎-elim}
 use lib.ListN.{getD}

@@ -1,4 +1,4 @@
--- `bits::zero` meets its contract. The loop's invariant: the first i bytes are zeros. Assumes nothing.
+-- `bits::zero` meets its contract. The loop's invariant: the first i bytes are zeros.
 use Prim.Native.Nat.{ℕ, _≤_, _-_}
 use mathlib.Core.Path.{_≡_, _∙_}
 use mathlib.Core.List.{List, _++_, append-nil}

@@ -1,4 +1,4 @@
--- `condensed::apply_condensed_mask_packing` meets its contract. The loop's invariant: the first bits of the source are ORed in. Assumes nothing.
+-- `condensed::apply_condensed_mask_packing` meets its contract. The loop's invariant: the first bits of the source are ORed in.
 use Prim.Native.Nat.{ℕ, _+_, _-_, _*_, _≤_}
 use mathlib.Core.Path.{_≡_, _∙_, refl, sym, ap, ap₂}
 use lib.ListN.{length}

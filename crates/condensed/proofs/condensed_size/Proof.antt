@@ -1,4 +1,4 @@
--- `condensed::condensed_size` meets its contract. Assumes nothing.
+-- `condensed::condensed_size` meets its contract.
 use Prim.Native.Nat.{min}
 use mathlib.Core.Path.{_∙_, ap}
 use borrow.Author.Tests.{lt-ltb, le-ltb}

@@ -1,4 +1,4 @@
--- `condensed::count_mask_ones` meets its contract. The loop's invariant: the ones counted and those of the bytes that are left are those of the mask. Assumes nothing.
+-- `condensed::count_mask_ones` meets its contract. The loop's invariant: the ones counted and those of the bytes that are left are those of the mask.
 use Prim.Native.Nat.{_+_, _-_, _*_, _≤_}
 use mathlib.Core.Path.{_≡_, ap}
 use lib.ListN.{length, drop, getD, drop-of-length-le}

@@ -1,4 +1,4 @@
--- `count_met_ones` meets its contract. The loop's invariant: the ones below place i are counted. Assumes nothing.
+-- `count_met_ones` meets its contract. The loop's invariant: the ones below place i are counted.
 use Prim.Native.Nat.{ℕ, _+_, _-_, _≤_, _<_}
 use mathlib.Core.Path.{_≡_, _∙_, refl, sym, ap₂}
 use native.Mathlib.Omega.{arith}

@@ -1,4 +1,4 @@
--- `front_bit_at` meets its contract. Assumes nothing.
+-- `front_bit_at` meets its contract.
 use mathlib.Core.Path.{sym}
 use Rattle.condensed.proofs.Gather.{frontBit-code, frontBit-out}
 use borrow.Author.Needs.{needs}

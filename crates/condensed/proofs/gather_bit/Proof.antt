@@ -1,4 +1,4 @@
--- `gather_bit` meets its contract. Assumes nothing.
+-- `gather_bit` meets its contract.
 use mathlib.Core.Path.{refl}
 use mathlib.Core.Bool.{false}
 use native.Mathlib.Omega.{arith}

@@ -1,4 +1,4 @@
--- `condensed::gather_bits` meets its contract. The loop's invariant: the result holds what is gathered of the first i bits. Assumes nothing.
+-- `condensed::gather_bits` meets its contract. The loop's invariant: the result holds what is gathered of the first i bits.
 use Prim.Native.Nat.{ℕ, _-_, _≤_}
 use mathlib.Core.Path.{_≡_, _∙_, refl, sym, ap, ap₂}
 use mathlib.Core.List.{List}

@@ -1,4 +1,4 @@
--- `replacement_bit` meets its contract. Assumes nothing.
+-- `replacement_bit` meets its contract.
 use mathlib.Core.Path.{_∙_}
 use Rattle.condensed.proofs.Replaced.{replacement-in, replacement-out}
 use borrow.Author.Needs.{needs}

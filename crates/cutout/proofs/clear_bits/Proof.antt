@@ -1,4 +1,4 @@
--- `cutout::clear_bits` meets its contract. Assumes nothing.
+-- `cutout::clear_bits` meets its contract.
 use mathlib.Core.Path.{_∙_}
 use Rattle.cutout.proofs.Cleared.{all-cleared, plain-cleared, condensed-cleared}
 use borrow.Author.Needs.{needs}

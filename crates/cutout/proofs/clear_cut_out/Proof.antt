@@ -1,4 +1,4 @@
--- `cutout::clear_cut_out` meets its contract. Assumes nothing.
+-- `cutout::clear_cut_out` meets its contract.
 use Rattle.masks.specs.Mask.{maskOf}
 use Rattle.cutout.specs.CutOut.{cleared}
 use Rattle.cutout.proofs.Puts.{turned-back}

@@ -1,4 +1,4 @@
--- `cutout::put_bits` meets its contract. Assumes nothing.
+-- `cutout::put_bits` meets its contract.
 use native.Mathlib.Omega.{arith}
 use Rattle.cutout.proofs.Puts.{put-absent, put-plain, put-condensed}
 use borrow.Author.Needs.{needs}

@@ -1,4 +1,4 @@
--- `cutout::write_cut_out` meets its contract. Assumes nothing.
+-- `cutout::write_cut_out` meets its contract.
 use Rattle.masks.specs.Mask.{maskOf}
 use Rattle.pack.specs.Packing.{packedSource}
 use Rattle.cutout.specs.CutOut.{put}

@@ -1,4 +1,4 @@
--- `dct::dct_fetch` meets its contract. Assumes nothing.
+-- `dct::dct_fetch` meets its contract.
 use mathlib.Core.Path.{ap, _∙_}
 use mathlib.Core.List.{[], _∷_}
 use Prim.Native.Nat.{ℕ}

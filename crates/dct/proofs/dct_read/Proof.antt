@@ -1,4 +1,4 @@
--- `dct::dct_read` meets its contract. Assumes nothing.
+-- `dct::dct_read` meets its contract.
 use mathlib.Core.Path.{refl, ap, ap₂, _∙_}
 use Rattle.decode.specs.Runtime.{listed}
 use Rattle.dct.specs.Boundary.{seen, seenLent, byRecordRead}

@@ -1,4 +1,4 @@
--- `dct::place_of` meets its contract. Assumes nothing.
+-- `dct::place_of` meets its contract.
 use borrow.Author.Tests.{eq-eqb, ne-eqb}
 use Rattle.dct.proofs.place_of.Statement.{statement}
 use Rattle.dct.proofs.place_of.Tie as tie

@@ -1,4 +1,4 @@
--- `field::is_outside` meets its contract. Assumes nothing.
+-- `field::is_outside` meets its contract.
 use mathlib.Core.Path.{sym}
 use Prim.Native.Nat.{_+_, _<_}
 use native.Mathlib.Omega.{arith}

@@ -1,4 +1,4 @@
--- `field::length_key_name` meets its contract. Assumes nothing.
+-- `field::length_key_name` meets its contract.
 use mathlib.Core.Path.{sym, ap, _∙_}
 use Rattle.kinds.proofs.Refused.{never-0}
 use Prim.Native.Nat.{ℕ}

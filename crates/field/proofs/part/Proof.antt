@@ -1,4 +1,4 @@
--- `field::part` meets its contract. Assumes nothing.
+-- `field::part` meets its contract.
 use mathlib.Core.Path.{sym, _∙_}
 use Prim.Native.Nat.{_+_, _≤_}
 use lib.ListN.{length}

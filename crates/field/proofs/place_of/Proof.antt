@@ -1,4 +1,4 @@
--- `field::place_of` meets its contract. Assumes nothing.
+-- `field::place_of` meets its contract.
 use borrow.Author.Needs.{needs}
 use Rattle.field.proofs.place_of.Statement.{statement}
 use Rattle.field.proofs.place_of.Tie as tie

@@ -1,4 +1,4 @@
--- `field::placed_part` meets its contract. Assumes nothing.
+-- `field::placed_part` meets its contract.
 use borrow.Author.Needs.{needs}
 use Rattle.field.proofs.placed_part.Statement.{statement}
 use Rattle.field.proofs.placed_part.Tie as tie

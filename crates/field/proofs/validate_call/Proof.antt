@@ -1,4 +1,4 @@
--- `field::validate_call` meets its contract. Assumes nothing.
+-- `field::validate_call` meets its contract.
 use mathlib.Core.Path.{sym}
 use Rattle.kinds.proofs.Refused.{handed-on}
 use borrow.Author.Needs.{needs}

@@ -1,4 +1,4 @@
--- `field::validate_description` meets its contract. Assumes nothing.
+-- `field::validate_description` meets its contract.
 use mathlib.Core.Path.{sym, ap, _∙_}
 use Rattle.kinds.proofs.Refused.{handed-on}
 use Rattle.coded.specs.declared.variants.OptionalPlace.{OptionalPlace}

@@ -1,4 +1,4 @@
--- `field::validate_place` meets its contract. Assumes nothing.
+-- `field::validate_place` meets its contract.
 use mathlib.Core.Path.{sym}
 use borrow.Author.Needs.{needs}
 use Rattle.field.proofs.validate_place.Statement.{statement}

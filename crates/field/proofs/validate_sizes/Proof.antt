@@ -1,4 +1,4 @@
--- `field::validate_sizes` meets its contract. Assumes nothing.
+-- `field::validate_sizes` meets its contract.
 use borrow.Author.Tests.{lt-ltb, le-ltb}
 use Rattle.field.proofs.validate_sizes.Statement.{statement}
 use Rattle.field.proofs.validate_sizes.Tie as tie

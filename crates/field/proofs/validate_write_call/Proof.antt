@@ -1,4 +1,4 @@
--- `field::validate_write_call` meets its contract. Assumes nothing.
+-- `field::validate_write_call` meets its contract.
 use mathlib.Core.Path.{sym}
 use borrow.Author.Tests.{lt-ltb, le-ltb}
 use Rattle.kinds.proofs.Refused.{handed-on}

@@ -1,4 +1,4 @@
--- `lengths::counted_use` meets its contract. Assumes nothing.
+-- `lengths::counted_use` meets its contract.
 use Rattle.lengths.proofs.Counted.{empty-counts, full-counts}
 use Rattle.lengths.proofs.counted_use.Statement.{statement}
 use Rattle.lengths.proofs.counted_use.Tie as tie

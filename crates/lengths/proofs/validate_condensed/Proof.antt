@@ -1,4 +1,4 @@
--- `lengths::validate_condensed` meets its contract. Assumes nothing.
+-- `lengths::validate_condensed` meets its contract.
 use mathlib.Core.Path.{_∙_}
 use borrow.Author.Tests.{lt-ltb, le-ltb}
 use borrow.Author.Needs.{needs}

@@ -1,4 +1,4 @@
--- `lengths::validate_leading_length` meets its contract. Assumes nothing.
+-- `lengths::validate_leading_length` meets its contract.
 use mathlib.Core.Path.{sym}
 use native.Mathlib.Omega.{arith}
 use Rattle.lengths.proofs.Counts.{is-32, of-64, is-33, is-38, holds-count}

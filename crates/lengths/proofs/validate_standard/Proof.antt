@@ -1,4 +1,4 @@
--- `lengths::validate_standard` meets its contract. Assumes nothing.
+-- `lengths::validate_standard` meets its contract.
 use borrow.Author.Tests.{le-ltb}
 use native.Mathlib.Omega.{arith}
 use mathlib.Core.Path.{sym}

@@ -1,4 +1,4 @@
--- `order::normalize_byte_order` meets its contract. Assumes nothing.
+-- `order::normalize_byte_order` meets its contract.
 use Rattle.order.specs.Order.{ordered}
 use borrow.Author.Needs.{needs}
 use Rattle.order.proofs.normalize_byte_order.Statement.{statement}

@@ -1,4 +1,4 @@
--- `order::ordered_byte` meets its contract. Assumes nothing.
+-- `order::ordered_byte` meets its contract.
 use native.Mathlib.Omega.{arith}
 use borrow.Author.Tests.{lt-ltb, le-ltb}
 use Rattle.order.proofs.Index.{turned, ordered-from}

@@ -1,4 +1,4 @@
--- `order::reorder_pairs` meets its contract. The loop's invariant: the first i pairs are swapped. Assumes nothing.
+-- `order::reorder_pairs` meets its contract. The loop's invariant: the first i pairs are swapped.
 use Prim.Native.Nat.{_-_, _≤_}
 use native.Mathlib.Omega.{arith}
 use lib.ListN.{length-set}

@@ -1,4 +1,4 @@
--- `order::reverse_bytes` meets its contract. The loop's invariant: the i outermost pairs are exchanged. Assumes nothing.
+-- `order::reverse_bytes` meets its contract. The loop's invariant: the i outermost pairs are exchanged.
 use Prim.Native.Nat.{_-_, _/_, _≤_}
 use mathlib.Core.Path.{refl}
 use native.Mathlib.Omega.{arith}

@@ -1,4 +1,4 @@
--- `align` meets its contract. Assumes nothing.
+-- `align` meets its contract.
 use native.Mathlib.Omega.{arith}
 use borrow.Author.Tests.{not-true, not-false}
 use Rattle.pack.proofs.Packed.{aligned-by}

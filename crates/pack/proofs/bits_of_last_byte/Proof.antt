@@ -1,4 +1,4 @@
--- `bits_of_last_byte` meets its contract. Assumes nothing.
+-- `bits_of_last_byte` meets its contract.
 use Prim.Native.Nat.{ℕ, _%_}
 use mathlib.Core.Path.{sym, ap, _∙_}
 use borrow.Author.Tests.{eq-eqb, ne-eqb}

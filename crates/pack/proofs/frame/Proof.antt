@@ -1,4 +1,4 @@
--- `pack::frame` meets its contract. Assumes nothing.
+-- `pack::frame` meets its contract.
 use Prim.Native.Nat.{ℕ}
 use mathlib.Core.Path.{ap}
 use Rattle.pack.specs.Packing.{framing}

@@ -1,4 +1,4 @@
--- `framed_bit` meets its contract. Assumes nothing.
+-- `framed_bit` meets its contract.
 use Prim.Native.Nat.{_-_, _*_, _/_, _^_}
 use mathlib.Core.Path.{_∙_}
 use lib.ListN.{length}

@@ -1,4 +1,4 @@
--- `pack::inject_bits` meets its contract. The loop's invariant: the first i bits are ORed in. Assumes nothing.
+-- `pack::inject_bits` meets its contract. The loop's invariant: the first i bits are ORed in.
 use Prim.Native.Nat.{ℕ, _-_, _≤_}
 use mathlib.Core.Path.{_≡_, _∙_, ap}
 use lib.ListN.{length}

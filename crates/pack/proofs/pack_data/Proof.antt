@@ -1,4 +1,4 @@
--- `pack::pack_data` meets its contract. Assumes nothing.
+-- `pack::pack_data` meets its contract.
 use borrow.Author.Needs.{needs}
 use Rattle.pack.proofs.pack_data.Statement.{statement}
 use Rattle.pack.proofs.pack_data.Tie as tie

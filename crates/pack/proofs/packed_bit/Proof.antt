@@ -1,4 +1,4 @@
--- `packed_bit` meets its contract. Assumes nothing.
+-- `packed_bit` meets its contract.
 use mathlib.Core.Path.{_∙_}
 use mathlib.Core.Logic.{⊎-elim}
 use Rattle.pack.proofs.Packed.{trimmed-off, below-trim, past-trim}

@@ -1,4 +1,4 @@
--- `source_bit` meets its contract. Assumes nothing.
+-- `source_bit` meets its contract.
 use mathlib.Core.Path.{_∙_, ap₂}
 use lib.Bits.{bitAnd}
 use Rattle.pack.proofs.Packed.{under-plain}

@@ -1,4 +1,4 @@
--- `payload::clear_source` meets its contract. Assumes nothing.
+-- `payload::clear_source` meets its contract.
 use Rattle.masks.specs.Mask.{maskOf}
 use Rattle.payload.proofs.Ways.{clear-26, clear-30, clear-all}
 use borrow.Author.Needs.{needs}

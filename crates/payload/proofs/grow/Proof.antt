@@ -1,4 +1,4 @@
--- `payload::grow` meets its contract. Assumes nothing.
+-- `payload::grow` meets its contract.
 use Rattle.payload.proofs.Written.{grown-by, grown-none}
 use borrow.Author.Needs.{needs}
 use Rattle.payload.proofs.grow.Statement.{statement}

@@ -1,4 +1,4 @@
--- `payload::write_source` meets its contract. Assumes nothing.
+-- `payload::write_source` meets its contract.
 use native.Mathlib.Omega.{arith}
 use Rattle.masks.specs.Mask.{maskOf}
 use Rattle.pack.specs.Packing.{packedSource}

@@ -1,5 +1,4 @@
 -- `replay::counted` is safe and ends. The measure is the number of turns that are left; with what is counted they are as many as at the start, so no count overflows.
--- Assumes nothing.
 use Prim.Native.Nat.{_+_}
 use mathlib.Core.Path.{_≡_}
 use native.Mathlib.Omega.{arith}

@@ -1,4 +1,4 @@
--- `storing::flags_byte` meets its contract. Assumes nothing.
+-- `storing::flags_byte` meets its contract.
 use mathlib.Core.Path.{_≡_}
 use mathlib.Core.Bool.{Bool}
 use Prim.Native.Nat.{ℕ, _+_, _≤_}

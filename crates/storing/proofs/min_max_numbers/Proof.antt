@@ -1,4 +1,4 @@
--- `storing::min_max_numbers` meets its contract. Assumes nothing.
+-- `storing::min_max_numbers` meets its contract.
 use borrow.Author.Needs.{needs}
 use Rattle.storing.proofs.min_max_numbers.Statement.{statement}
 use Rattle.storing.proofs.min_max_numbers.Tie as tie

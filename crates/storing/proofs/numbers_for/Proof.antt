@@ -1,4 +1,4 @@
--- `storing::numbers_for` meets its contract. Assumes nothing.
+-- `storing::numbers_for` meets its contract.
 use borrow.Author.Needs.{needs}
 use Rattle.storing.proofs.numbers_for.Statement.{statement}
 use Rattle.storing.proofs.numbers_for.Tie as tie

@@ -1,4 +1,4 @@
--- `storing::place_or_zeros` meets its contract. Assumes nothing.
+-- `storing::place_or_zeros` meets its contract.
 use borrow.Author.Needs.{needs}
 use Rattle.storing.proofs.place_or_zeros.Statement.{statement}
 use Rattle.storing.proofs.place_or_zeros.Tie as tie

@@ -1,4 +1,4 @@
--- `storing::record_of` meets its contract. Assumes nothing.
+-- `storing::record_of` meets its contract.
 use mathlib.Core.Path.{_≡_, sym}
 use mathlib.Core.Bool.{Bool}
 use mathlib.Core.List.{List}

@@ -1,4 +1,4 @@
--- `storing::standard_numbers` meets its contract. Assumes nothing.
+-- `storing::standard_numbers` meets its contract.
 use borrow.Author.Needs.{needs}
 use Rattle.storing.proofs.standard_numbers.Statement.{statement}
 use Rattle.storing.proofs.standard_numbers.Tie as tie

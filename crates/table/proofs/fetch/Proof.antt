@@ -1,4 +1,4 @@
--- `table::fetch` meets its contract. Assumes nothing.
+-- `table::fetch` meets its contract.
 use Rattle.table.specs.Table.{fetched}
 use borrow.Author.Tests.{lt-ltb, le-ltb}
 use Rattle.table.proofs.Headers.{total-size}

@@ -1,4 +1,4 @@
--- `table::fetch_record` meets its contract. Assumes nothing.
+-- `table::fetch_record` meets its contract.
 use native.Mathlib.Nat.{add-sub-cancel-left}
 use Rattle.kinds.proofs.Refused.{never-0}
 use borrow.Author.Tests.{le-leb, lt-leb}

@@ -1,4 +1,4 @@
--- `table::is_marked` meets its contract. Assumes nothing.
+-- `table::is_marked` meets its contract.
 use borrow.Author.Tests.{eq-eqb, ne-eqb}
 use borrow.Author.Needs.{needs}
 use Rattle.table.proofs.is_marked.Statement.{statement}

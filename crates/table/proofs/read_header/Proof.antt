@@ -1,4 +1,4 @@
--- `table::read_header` meets its contract. Assumes nothing.
+-- `table::read_header` meets its contract.
 use mathlib.Core.Path.{sym, _∙_}
 use borrow.Author.Tests.{eq-eqb, ne-eqb, lt-ltb, le-ltb, not-true, not-false}
 use borrow.Author.Needs.{needs}

@@ -1,4 +1,4 @@
--- `unpack::apply_condensed_mask_unpacking` meets its contract. Assumes nothing.
+-- `unpack::apply_condensed_mask_unpacking` meets its contract.
 use mathlib.Core.Path.{_≡_, sym, _∙_}
 use lib.Seq.{length-take-le}
 use Rattle.order.specs.Order.{ordered}

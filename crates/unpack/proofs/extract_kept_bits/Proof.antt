@@ -1,4 +1,4 @@
--- `unpack::extract_kept_bits` meets its contract. Assumes nothing.
+-- `unpack::extract_kept_bits` meets its contract.
 use mathlib.Core.Path.{ap, _∙_}
 use Rattle.masks.specs.declared.plain.Kept.the-variants.{UnderOnes}
 use Rattle.masks.specs.Plain.{masked}

@@ -1,4 +1,4 @@
--- `unpack::unpack_bits` meets its contract. Assumes nothing.
+-- `unpack::unpack_bits` meets its contract.
 use mathlib.Core.Path.{_≡_, sym, _∙_}
 use lib.ListN.{length}
 use lib.Seq.{length-take-le}

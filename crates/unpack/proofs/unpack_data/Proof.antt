@@ -1,4 +1,4 @@
--- `unpack::unpack_data` meets its contract. Assumes nothing.
+-- `unpack::unpack_data` meets its contract.
 use Prim.Native.Nat.{_+_, _*_, _<_}
 use mathlib.Core.Path.{refl, sym}
 use lib.ListN.{length}

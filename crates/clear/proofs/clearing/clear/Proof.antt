@@ -1,4 +1,4 @@
--- `clear::clearing::clear` meets its contract. Assumes nothing.
+-- `clear::clearing::clear` meets its contract.
 use mathlib.Core.Path.{_≡_, sym, _∙_}
 use lib.ListN.{length}
 use native.Mathlib.Omega.{arith}

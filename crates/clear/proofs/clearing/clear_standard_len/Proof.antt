@@ -1,4 +1,4 @@
--- `clear::clearing::clear_standard_len` meets its contract. Assumes nothing.
+-- `clear::clearing::clear_standard_len` meets its contract.
 use mathlib.Core.Path.{sym, ap, ap₂, _∙_}
 use mathlib.Core.Bool.{false}
 use Rattle.masks.specs.Mask.{maskOf}

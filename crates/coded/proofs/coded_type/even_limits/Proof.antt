@@ -1,4 +1,4 @@
--- `even_limits` meets its contract. Assumes nothing.
+-- `even_limits` meets its contract.
 use borrow.Author.Tests.{eq-eqb, ne-eqb}
 use borrow.Author.Needs.{needs}
 use Rattle.coded.proofs.coded_type.even_limits.Statement.{statement}

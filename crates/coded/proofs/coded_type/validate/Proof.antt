@@ -1,4 +1,4 @@
--- `validate` meets its contract. Assumes nothing.
+-- `validate` meets its contract.
 use mathlib.Core.Path.{sym, _∙_}
 use borrow.Author.Needs.{needs}
 use Rattle.coded.proofs.coded_type.validate.Statement.{statement}

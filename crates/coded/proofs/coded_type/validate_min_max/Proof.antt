@@ -1,4 +1,4 @@
--- `validate_min_max` meets its contract. Assumes nothing.
+-- `validate_min_max` meets its contract.
 use mathlib.Core.Bool.{Bool, true, false, not, _&&_}
 use mathlib.Core.List.{[], _∷_}
 use Prim.Native.Nat.{ℕ}

@@ -1,4 +1,4 @@
--- `coded::validate_limits` meets its contract. Assumes nothing.
+-- `coded::validate_limits` meets its contract.
 use borrow.Author.Tests.{ne-eqb, lt-ltb, le-ltb}
 use borrow.Author.Needs.{needs}
 use Rattle.coded.proofs.variants.validate_limits.Statement.{statement}

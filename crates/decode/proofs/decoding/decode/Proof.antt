@@ -1,4 +1,4 @@
--- `decode::decode` meets its contract. Assumes nothing.
+-- `decode::decode` meets its contract.
 use mathlib.Core.Path.{_≡_, sym, ap, _∙_}
 use lib.ListN.{length}
 use native.Mathlib.Omega.{arith}

@@ -1,4 +1,4 @@
--- `decode::decode_with_runtime_byte_length` meets its contract. Assumes nothing.
+-- `decode::decode_with_runtime_byte_length` meets its contract.
 use Prim.Native.Nat.{ℕ, _-_, _≤_}
 use mathlib.Core.Path.{_≡_, sym, ap, _∙_}
 use mathlib.Core.List.{[], _∷_}

@@ -1,4 +1,4 @@
--- `encode::encoding::encode` meets its contract. Assumes nothing.
+-- `encode::encoding::encode` meets its contract.
 use mathlib.Core.Path.{_≡_, sym}
 use lib.ListN.{length}
 use native.Mathlib.Omega.{arith}

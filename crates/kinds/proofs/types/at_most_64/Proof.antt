@@ -1,4 +1,4 @@
--- `at_most_64` meets its contract. Assumes nothing.
+-- `at_most_64` meets its contract.
 use borrow.Author.Tests.{lt-ltb, le-ltb}
 use Rattle.kinds.proofs.types.at_most_64.Statement.{statement}
 use Rattle.kinds.proofs.types.at_most_64.Tie as tie

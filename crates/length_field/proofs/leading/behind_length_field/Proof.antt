@@ -1,4 +1,4 @@
--- `length_field::behind_length_field` meets its contract. Assumes nothing.
+-- `length_field::behind_length_field` meets its contract.
 use Prim.Native.Nat.{ℕ, _%_, _^_, _≤_}
 use mathlib.Core.Path.{_≡_, sym, ap, _∙_}
 use native.Mathlib.Omega.{arith}

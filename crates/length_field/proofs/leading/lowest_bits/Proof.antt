@@ -1,4 +1,4 @@
--- `length_field::lowest_bits` meets its contract. Assumes nothing.
+-- `length_field::lowest_bits` meets its contract.
 use Prim.Native.Nat.{ℕ, _%_, _^_}
 use mathlib.Core.Path.{ap, _∙_}
 use native.Mathlib.Omega.{arith}

@@ -1,4 +1,4 @@
--- `length_field::pos_info_leading_len` meets its contract. Assumes nothing.
+-- `length_field::pos_info_leading_len` meets its contract.
 use mathlib.Core.Path.{_≡_, sym}
 use native.Mathlib.Omega.{arith}
 use Rattle.kinds.specs.Refusals.{bitLengthRefusal}

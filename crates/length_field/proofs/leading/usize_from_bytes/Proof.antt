@@ -1,4 +1,4 @@
--- `length_field::usize_from_bytes` meets its contract. Assumes nothing.
+-- `length_field::usize_from_bytes` meets its contract.
 use mathlib.Core.Path.{refl, _∙_}
 use native.Mathlib.Omega.{arith}
 use Rattle.length_field.specs.Leading.{bigEndian}

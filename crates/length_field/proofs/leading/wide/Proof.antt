@@ -1,4 +1,4 @@
--- `length_field::wide` meets its contract. The loop's invariant: len is what the first j bytes make, and fits them. Assumes nothing.
+-- `length_field::wide` meets its contract. The loop's invariant: len is what the first j bytes make, and fits them.
 use Prim.Native.Nat.{_-_, _*_, _^_, _≤_, _<_}
 use mathlib.Core.Path.{_≡_, refl, ap, _∙_}
 use native.Mathlib.Omega.{arith}

@@ -1,4 +1,4 @@
--- `masks::apply_bit_mask` meets its contract. The loop's invariant: the first i bits are masked. Assumes nothing.
+-- `masks::apply_bit_mask` meets its contract. The loop's invariant: the first i bits are masked.
 use Prim.Native.Nat.{ℕ, _+_, _-_, _*_, _≤_, _<_}
 use mathlib.Core.Path.{_≡_, _∙_, ap}
 use lib.ListN.{length}

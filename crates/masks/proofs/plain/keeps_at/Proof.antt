@@ -1,4 +1,4 @@
--- `keeps_at` meets its contract. Assumes nothing.
+-- `keeps_at` meets its contract.
 use native.Mathlib.Omega.{arith}
 use Rattle.masks.proofs.Masked.{maskBit-lt}
 use borrow.Author.Needs.{needs}

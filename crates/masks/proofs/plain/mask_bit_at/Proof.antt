@@ -1,4 +1,4 @@
--- `mask_bit_at` meets its contract. Assumes nothing.
+-- `mask_bit_at` meets its contract.
 use Prim.Native.Nat.{_-_, _/_}
 use mathlib.Core.Path.{_≡_, sym}
 use lib.ListN.{length}

@@ -1,4 +1,4 @@
--- `positions::pos_info_standard_len` meets its contract. Assumes nothing.
+-- `positions::pos_info_standard_len` meets its contract.
 use mathlib.Core.Path.{sym}
 use Rattle.kinds.proofs.Rules.{length-not-30}
 use Rattle.positions.proofs.NotFound.{not-found}

@@ -1,4 +1,4 @@
--- `readers::decode_leading_len` meets its contract. Assumes nothing.
+-- `readers::decode_leading_len` meets its contract.
 use mathlib.Core.Path.{ap, _∙_}
 use Rattle.masks.specs.Mask.{noMask}
 use Rattle.positions.specs.Located.{Located}

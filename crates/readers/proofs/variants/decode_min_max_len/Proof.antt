@@ -1,4 +1,4 @@
--- `readers::decode_min_max_len` meets its contract. Assumes nothing.
+-- `readers::decode_min_max_len` meets its contract.
 use mathlib.Core.Path.{ap, _∙_}
 use mathlib.Core.Bool.{Bool}
 use Rattle.masks.specs.Mask.{noMask}

@@ -1,4 +1,4 @@
--- `readers::decode_standard_len` meets its contract. Assumes nothing.
+-- `readers::decode_standard_len` meets its contract.
 use mathlib.Core.Path.{ap₂, _∙_}
 use Rattle.masks.specs.Mask.{Mask, maskOf}
 use Rattle.field.specs.Field.{maskIn}

@@ -1,4 +1,4 @@
--- `readers::decode_variant` meets its contract. Assumes nothing.
+-- `readers::decode_variant` meets its contract.
 use mathlib.Core.Path.{refl, sym}
 use lib.ListN.{length}
 use Rattle.unpack.proofs.Answers.{refused-first}

@@ -1,4 +1,4 @@
--- `readers::unpack_at` meets its contract. Assumes nothing.
+-- `readers::unpack_at` meets its contract.
 use Prim.Native.Nat.{ℕ, _-_}
 use mathlib.Core.Path.{_≡_, sym, ap, _∙_}
 use Rattle.kinds.specs.Types.{bytesFor}

@@ -1,4 +1,4 @@
--- `readers::unpack_found` meets its contract. Assumes nothing.
+-- `readers::unpack_found` meets its contract.
 use borrow.Author.Needs.{needs}
 use Rattle.readers.proofs.variants.unpack_found.Statement.{statement}
 use Rattle.readers.proofs.variants.unpack_found.Tie as tie

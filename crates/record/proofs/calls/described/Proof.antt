@@ -1,4 +1,4 @@
--- `record::described` meets its contract. Assumes nothing.
+-- `record::described` meets its contract.
 use mathlib.Core.Path.{_≡_, refl}
 use mathlib.Core.Bool.{false}
 use Prim.Native.Nat.{ℕ}

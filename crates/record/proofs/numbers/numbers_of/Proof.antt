@@ -1,4 +1,4 @@
--- `record::numbers_of` meets its contract. Assumes nothing.
+-- `record::numbers_of` meets its contract.
 use borrow.Author.Needs.{needs}
 use Rattle.record.proofs.numbers.numbers_of.Statement.{statement}
 use Rattle.record.proofs.numbers.numbers_of.Tie as tie

@@ -1,4 +1,4 @@
--- `record::read16` meets its contract. Assumes nothing.
+-- `record::read16` meets its contract.
 use mathlib.Core.Path.{refl}
 use Prim.Native.Nat.{_+_, _<_}
 use lib.ListN.{getD}

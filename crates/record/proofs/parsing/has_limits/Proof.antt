@@ -1,4 +1,4 @@
--- `record::has_limits` meets its contract. Assumes nothing.
+-- `record::has_limits` meets its contract.
 use borrow.Author.Tests.{eq-eqb, ne-eqb}
 use Rattle.record.proofs.parsing.has_limits.Statement.{statement}
 use Rattle.record.proofs.parsing.has_limits.Tie as tie

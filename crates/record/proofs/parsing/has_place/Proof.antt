@@ -1,4 +1,4 @@
--- `record::has_place` meets its contract. Assumes nothing.
+-- `record::has_place` meets its contract.
 use borrow.Author.Tests.{eq-eqb, ne-eqb}
 use Rattle.record.proofs.parsing.has_place.Statement.{statement}
 use Rattle.record.proofs.parsing.has_place.Tie as tie

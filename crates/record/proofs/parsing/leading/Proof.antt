@@ -1,4 +1,4 @@
--- `record::leading` meets its contract. Assumes nothing.
+-- `record::leading` meets its contract.
 use borrow.Author.Needs.{needs}
 use Rattle.record.proofs.parsing.leading.Statement.{statement}
 use Rattle.record.proofs.parsing.leading.Tie as tie

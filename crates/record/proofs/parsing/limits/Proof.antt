@@ -1,4 +1,4 @@
--- `record::limits` meets its contract. Assumes nothing.
+-- `record::limits` meets its contract.
 use borrow.Author.Tests.{eq-eqb, ne-eqb}
 use Rattle.record.proofs.parsing.limits.Statement.{statement}
 use Rattle.record.proofs.parsing.limits.Tie as tie

@@ -1,4 +1,4 @@
--- `record::min_max` meets its contract. Assumes nothing.
+-- `record::min_max` meets its contract.
 use borrow.Author.Needs.{needs}
 use Rattle.record.proofs.parsing.min_max.Statement.{statement}
 use Rattle.record.proofs.parsing.min_max.Tie as tie

@@ -1,4 +1,4 @@
--- `record::param` meets its contract. Assumes nothing.
+-- `record::param` meets its contract.
 use borrow.Author.Tests.{eq-eqb, ne-eqb}
 use borrow.Author.Needs.{needs}
 use Rattle.record.proofs.parsing.param.Statement.{statement}

@@ -1,4 +1,4 @@
--- `record::parse` meets its contract. Assumes nothing.
+-- `record::parse` meets its contract.
 use mathlib.Core.Path.{_≡_, refl, sym}
 use mathlib.Core.Bool.{true, false}
 use lib.Dec.{eqb}

@@ -1,4 +1,4 @@
--- `record::standard` meets its contract. Assumes nothing.
+-- `record::standard` meets its contract.
 use borrow.Author.Needs.{needs}
 use Rattle.record.proofs.parsing.standard.Statement.{statement}
 use Rattle.record.proofs.parsing.standard.Tie as tie

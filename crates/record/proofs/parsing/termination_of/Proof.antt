@@ -1,4 +1,4 @@
--- `record::termination_of` meets its contract. Assumes nothing.
+-- `record::termination_of` meets its contract.
 use borrow.Author.Tests.{ne-eqb}
 use Rattle.record.proofs.parsing.termination_of.Statement.{statement}
 use Rattle.record.proofs.parsing.termination_of.Tie as tie

@@ -1,4 +1,4 @@
--- `record::type_of` meets its contract. Assumes nothing.
+-- `record::type_of` meets its contract.
 use borrow.Author.Tests.{ne-eqb}
 use Rattle.record.proofs.parsing.type_of.Statement.{statement}
 use Rattle.record.proofs.parsing.type_of.Tie as tie

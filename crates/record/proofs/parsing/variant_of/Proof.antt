@@ -1,4 +1,4 @@
--- `record::variant_of` meets its contract. Assumes nothing.
+-- `record::variant_of` meets its contract.
 use borrow.Author.Tests.{ne-eqb}
 use borrow.Author.Needs.{needs}
 use Rattle.record.proofs.parsing.variant_of.Statement.{statement}

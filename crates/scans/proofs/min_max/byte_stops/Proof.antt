@@ -1,4 +1,4 @@
--- `scans::byte_stops` meets its contract. Assumes nothing.
+-- `scans::byte_stops` meets its contract.
 use mathlib.Core.Path.{sym, _∙_}
 use mathlib.Core.Bool.{and-true}
 use borrow.Author.Tests.{le-leb, lt-leb}

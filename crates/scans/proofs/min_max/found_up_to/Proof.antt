@@ -1,4 +1,4 @@
--- `scans::found_up_to` meets its contract. Assumes nothing.
+-- `scans::found_up_to` meets its contract.
 use borrow.Author.Tests.{lt-ltb, le-ltb}
 use borrow.Author.Needs.{needs}
 use Rattle.scans.proofs.min_max.found_up_to.Statement.{statement}

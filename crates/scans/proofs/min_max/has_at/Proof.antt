@@ -1,4 +1,4 @@
--- `scans::has_at` meets its contract. Assumes nothing.
+-- `scans::has_at` meets its contract.
 use borrow.Author.Tests.{lt-ltb, le-ltb}
 use borrow.Author.Needs.{needs}
 use Rattle.scans.proofs.min_max.has_at.Statement.{statement}

@@ -1,4 +1,4 @@
--- `scans::max_end` meets its contract. Assumes nothing.
+-- `scans::max_end` meets its contract.
 use native.Mathlib.Omega.{arith}
 use borrow.Author.Needs.{needs}
 use Rattle.scans.proofs.min_max.max_end.Statement.{statement}

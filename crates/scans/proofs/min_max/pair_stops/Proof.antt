@@ -1,4 +1,4 @@
--- `scans::pair_stops` meets its contract. Assumes nothing.
+-- `scans::pair_stops` meets its contract.
 use mathlib.Core.Path.{sym, _∙_}
 use borrow.Author.Tests.{le-leb, lt-leb}
 use borrow.Author.Needs.{needs}

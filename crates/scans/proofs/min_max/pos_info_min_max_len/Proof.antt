@@ -1,4 +1,4 @@
--- `scans::pos_info_min_max_len` meets its contract. Assumes nothing.
+-- `scans::pos_info_min_max_len` meets its contract.
 use Prim.Native.Nat.{_≤_}
 use mathlib.Core.Path.{_≡_, _∙_, refl, ap}
 use mathlib.Core.Bool.{true, false}

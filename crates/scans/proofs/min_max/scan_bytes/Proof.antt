@@ -1,4 +1,4 @@
--- `scans::scan_bytes` meets its contract. The loop's invariant: a scan from here on stops where one from the start does. Assumes nothing.
+-- `scans::scan_bytes` meets its contract. The loop's invariant: a scan from here on stops where one from the start does.
 use Prim.Native.Nat.{_-_, _≤_}
 use mathlib.Core.Path.{_≡_, _∙_, refl, sym}
 use mathlib.Core.Bool.{false}

@@ -1,4 +1,4 @@
--- `scans::scan_for` meets its contract. Assumes nothing.
+-- `scans::scan_for` meets its contract.
 use borrow.Author.Needs.{needs}
 use Rattle.scans.proofs.min_max.scan_for.Statement.{statement}
 use Rattle.scans.proofs.min_max.scan_for.Tie as tie

@@ -1,4 +1,4 @@
--- `writers::variants::encode_leading_length` meets its contract. Assumes nothing.
+-- `writers::variants::encode_leading_length` meets its contract.
 use mathlib.Core.Path.{_≡_, sym, ap, _∙_}
 use native.Mathlib.Omega.{arith}
 use lib.ListN.{length}

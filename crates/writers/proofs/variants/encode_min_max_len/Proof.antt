@@ -1,4 +1,4 @@
--- `writers::variants::encode_min_max_len` meets its contract. Assumes nothing.
+-- `writers::variants::encode_min_max_len` meets its contract.
 use Rattle.payload.specs.Answers.{payloadOf}
 use Rattle.writers.proofs.Writings.{zero-written, hex-ff-written, until-end-written, short-terminator}
 use borrow.Author.Needs.{needs}

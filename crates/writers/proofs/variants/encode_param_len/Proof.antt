@@ -1,4 +1,4 @@
--- `writers::variants::encode_param_len` meets its contract. Assumes nothing.
+-- `writers::variants::encode_param_len` meets its contract.
 use Rattle.payload.specs.Answers.{payloadOf}
 use Rattle.writers.proofs.Writings.{param-written}
 use borrow.Author.Needs.{needs}

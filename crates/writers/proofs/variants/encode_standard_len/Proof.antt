@@ -1,4 +1,4 @@
--- `writers::variants::encode_standard_len` meets its contract. Assumes nothing.
+-- `writers::variants::encode_standard_len` meets its contract.
 use Prim.Native.Nat.{_≤_}
 use mathlib.Core.Path.{_≡_, sym, ap, ap₂, _∙_}
 use native.Mathlib.Omega.{arith}

@@ -1,4 +1,4 @@
--- `writers::variants::encode_variant` meets its contract. Assumes nothing.
+-- `writers::variants::encode_variant` meets its contract.
 use mathlib.Core.Bool.{Bool}
 use mathlib.Core.Path.{ap, _∙_}
 use Rattle.payload.specs.Answers.{payloadOf}

@@ -1,4 +1,4 @@
--- `writers::variants::write_terminated` meets its contract. Assumes nothing.
+-- `writers::variants::write_terminated` meets its contract.
 use mathlib.Core.Path.{ap}
 use native.Mathlib.Omega.{arith}
 use Rattle.pack.specs.declared.Packing.{Packing}

@@ -1,4 +1,4 @@
--- `DiagCodedType::bit_len` meets its contract. Assumes nothing.
+-- `DiagCodedType::bit_len` meets its contract.
 use borrow.Author.Needs.{needs}
 use Rattle.coded.proofs.coded_type.DiagCodedType.bit_len.Statement.{statement}
 use Rattle.coded.proofs.coded_type.DiagCodedType.bit_len.Tie as tie

@@ -1,4 +1,4 @@
--- `DiagCodedType::length_key_place` meets its contract. Assumes nothing.
+-- `DiagCodedType::length_key_place` meets its contract.
 use borrow.Author.Needs.{needs}
 use Rattle.coded.proofs.coded_type.DiagCodedType.length_key_place.Statement.{statement}
 use Rattle.coded.proofs.coded_type.DiagCodedType.length_key_place.Tie as tie

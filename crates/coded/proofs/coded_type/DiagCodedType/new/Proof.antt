@@ -1,4 +1,4 @@
--- `DiagCodedType::new` meets its contract. Assumes nothing.
+-- `DiagCodedType::new` meets its contract.
 use mathlib.Core.Path.{sym}
 use Rattle.kinds.proofs.Refused.{none-made}
 use borrow.Author.Needs.{needs}

@@ -1,4 +1,4 @@
--- `DiagCodedType::validate` meets its contract. Assumes nothing.
+-- `DiagCodedType::validate` meets its contract.
 use mathlib.Core.Path.{sym}
 use Rattle.kinds.proofs.Refused.{handed-on}
 use borrow.Author.Needs.{needs}

@@ -1,4 +1,4 @@
--- `DiagCodedTypeVariant::validate_limits` meets its contract. Assumes nothing.
+-- `DiagCodedTypeVariant::validate_limits` meets its contract.
 use borrow.Author.Needs.{needs}
 use Rattle.coded.proofs.variants.DiagCodedTypeVariant.validate_limits.Statement.{statement}
 use Rattle.coded.proofs.variants.DiagCodedTypeVariant.validate_limits.Tie as tie

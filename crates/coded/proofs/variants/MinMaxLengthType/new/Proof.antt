@@ -1,4 +1,4 @@
--- `MinMaxLengthType::new` meets its contract. Assumes nothing.
+-- `MinMaxLengthType::new` meets its contract.
 use mathlib.Core.Path.{sym}
 use Rattle.kinds.proofs.Refused.{none-made}
 use borrow.Author.Needs.{needs}

@@ -1,4 +1,4 @@
--- `Reading::report` meets its contract. Assumes nothing.
+-- `Reading::report` meets its contract.
 use borrow.Author.Needs.{needs}
 use Rattle.kinds.proofs.refusals.Reading.report.Statement.{statement}
 use Rattle.kinds.proofs.refusals.Reading.report.Tie as tie

@@ -1,4 +1,4 @@
--- `Refusal::number` meets its contract. Assumes nothing.
+-- `Refusal::number` meets its contract.
 use borrow.Author.Needs.{needs}
 use Rattle.kinds.proofs.refusals.Refusal.number.Statement.{statement}
 use Rattle.kinds.proofs.refusals.Refusal.number.Tie as tie

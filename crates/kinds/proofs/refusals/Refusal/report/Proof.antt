@@ -1,4 +1,4 @@
--- `Refusal::report` meets its contract. Assumes nothing.
+-- `Refusal::report` meets its contract.
 use mathlib.Core.Path.{ap, _∙_}
 use Rattle.kinds.specs.Answers.{refused}
 use Rattle.kinds.proofs.Refused.{plain}

@@ -1,4 +1,4 @@
--- `Writing::report` meets its contract. Assumes nothing.
+-- `Writing::report` meets its contract.
 use borrow.Author.Needs.{needs}
 use Rattle.kinds.proofs.refusals.Writing.report.Statement.{statement}
 use Rattle.kinds.proofs.refusals.Writing.report.Tie as tie

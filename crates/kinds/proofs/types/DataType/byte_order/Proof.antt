@@ -1,4 +1,4 @@
--- `DataType::byte_order` meets its contract. Assumes nothing.
+-- `DataType::byte_order` meets its contract.
 use borrow.Author.Needs.{needs}
 use Rattle.kinds.proofs.types.DataType.byte_order.Statement.{statement}
 use Rattle.kinds.proofs.types.DataType.byte_order.Tie as tie

@@ -1,4 +1,4 @@
--- `DataType::is_byte_type` meets its contract. Assumes nothing.
+-- `DataType::is_byte_type` meets its contract.
 use borrow.Author.Needs.{needs}
 use Rattle.kinds.proofs.types.DataType.is_byte_type.Statement.{statement}
 use Rattle.kinds.proofs.types.DataType.is_byte_type.Tie as tie

@@ -1,4 +1,4 @@
--- `DataType::is_unicode` meets its contract. Assumes nothing.
+-- `DataType::is_unicode` meets its contract.
 use borrow.Author.Needs.{needs}
 use Rattle.kinds.proofs.types.DataType.is_unicode.Statement.{statement}
 use Rattle.kinds.proofs.types.DataType.is_unicode.Tie as tie

@@ -1,4 +1,4 @@
--- `DataType::validate_bit_len` meets its contract. Assumes nothing.
+-- `DataType::validate_bit_len` meets its contract.
 use borrow.Author.Tests.{eq-eqb, ne-eqb}
 use borrow.Author.Needs.{needs}
 use Rattle.kinds.proofs.types.DataType.validate_bit_len.Statement.{statement}

@@ -1,4 +1,4 @@
--- `DataType::validate_bit_pos` meets its contract. Assumes nothing.
+-- `DataType::validate_bit_pos` meets its contract.
 use borrow.Author.Tests.{eq-eqb, ne-eqb}
 use mathlib.Core.Path.{sym, _∙_}
 use mathlib.Core.Bool.{and-false}

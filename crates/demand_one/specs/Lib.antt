@@ -1,0 +1,2 @@
+-- `Refusing` states demand 1.
+pub mod Refusing

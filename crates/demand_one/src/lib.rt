@@ -1,0 +1,1 @@
+// Theorems on what C calls. There is no code.

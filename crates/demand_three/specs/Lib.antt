@@ -1,0 +1,2 @@
+-- `Changing` states demand 3.
+pub mod Changing

@@ -1,0 +1,1 @@
+// Theorems on lists of fields. There is no code.

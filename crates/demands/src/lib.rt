@@ -1,1 +1,0 @@
-// Theorems over what all calls are held to. There is no code.

@@ -1,0 +1,2 @@
+-- `Unique` has that no second answer fits a contract.
+pub mod Unique

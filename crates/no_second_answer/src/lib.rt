@@ -1,0 +1,1 @@
+// Theorems over every contract. There is no code.

@@ -1,0 +1,1 @@
+// Tables of examples that the checker computes. There is no code.
