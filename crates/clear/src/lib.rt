@@ -1,4 +1,4 @@
-// Taking the bits of a coded field of a payload back to zero.
-mod clearing; // clearing.rt: clear
+// Taking the bits of a field of a payload back to zero.
+mod clearing; // clearing.rt: clear of a field
 
-pub use clearing::clear;
+pub use clearing::clear_field;

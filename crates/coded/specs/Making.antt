@@ -11,22 +11,21 @@ use Rattle.coded.specs.declared.variants.DiagCodedTypeVariant.{DiagCoded
 use Rattle.coded.specs.declared.coded_type.DiagCodedType.{DiagCodedType}
 use Rattle.coded.specs.declared.coded_type.Built.{Built}
 use Rattle.coded.specs.declared.coded_type.Built.the-variants as built
-use Rattle.kinds.specs.Answers.{numberOf}
 use Rattle.coded.specs.Refusals.{minMaxRefusal, codedTypeRefusal}
-use Rattle.kinds.specs.Rules.{Outcome, gives, refuses, unless}
+use Rattle.kinds.specs.Outcomes.{Outcome, gives, refuses, after}
 
 abbrev pub newMinMax : ℕ → MaxLength → Termination → Outcome MinMaxLengthType
-newMinMax min max t = unless (minMaxRefusal min max) (record { «min_length» = min; «max_length» = max; termination = t })
+newMinMax min max t = after (minMaxRefusal min max) (gives (record { «min_length» = min; «max_length» = max; termination = t }))
 
 abbrev pub newCodedType : DataType → DiagCodedTypeVariant → Bool → Outcome DiagCodedType
 newCodedType t v highLow =
-    unless (codedTypeRefusal t v) (record { «base_datatype» = t; «type_» = v; «is_high_low_byte_order» = highLow })
+    after (codedTypeRefusal t v) (gives (record { «base_datatype» = t; «type_» = v; «is_high_low_byte_order» = highLow }))
 
--- the answers of the code, with the paper's numbers
+-- the answers of the code
 abbrev pub outcomeOfMinMax : MinMaxBuilt → Outcome MinMaxLengthType
 outcomeOfMinMax (minMax.Made m) = gives m
-outcomeOfMinMax (minMax.Refused r) = refuses (numberOf r)
+outcomeOfMinMax (minMax.Refused r) = refuses r
 
 abbrev pub outcomeOfCodedType : Built → Outcome DiagCodedType
 outcomeOfCodedType (built.Made t) = gives t
-outcomeOfCodedType (built.Refused r) = refuses (numberOf r)
+outcomeOfCodedType (built.Refused r) = refuses r

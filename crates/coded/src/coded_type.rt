@@ -1,7 +1,6 @@
 // The coded type: how it is made, and its small getters.
 ghost use mathlib.Core.Path.{_≡_};
 ghost use mathlib.Core.Bool.{true};
-ghost use Rattle.kinds.specs.Answers.{numberOfCheck};
 ghost use Rattle.coded.specs.Refusals.{evenLimits, codedTypeRefusal, madeRefusal};
 ghost use Rattle.coded.specs.Making.{newCodedType, outcomeOfCodedType};
 ghost use Rattle.coded.specs.Getters.{bitLenOf, keyNameOf};
@@ -67,7 +66,7 @@ impl DiagCodedType {
 
     // 12, 13, 10 and 11: what either `new` refuses, of a coded type however it was made.
     pub fn validate(self) -> Check
-        ensures { λ r. ⌜ numberOfCheck r ≡ madeRefusal self ⌝ }
+        ensures { λ r. ⌜ r ≡ madeRefusal self ⌝ }
     {
         let base_datatype = self.base_datatype;
         let type_ = self.type_;
@@ -121,7 +120,7 @@ impl DiagCodedType {
 
 // Whether the variant may be had on the type.
 fn validate(base_datatype: DataType, type_: DiagCodedTypeVariant) -> Check
-    ensures { λ r. ⌜ numberOfCheck r ≡ codedTypeRefusal «base_datatype» «type_» ⌝ }
+    ensures { λ r. ⌜ r ≡ codedTypeRefusal «base_datatype» «type_» ⌝ }
 {
     match type_ {
         DiagCodedTypeVariant::LeadingLengthInfo(_) => {
@@ -137,7 +136,7 @@ fn validate(base_datatype: DataType, type_: DiagCodedTypeVariant) -> Check
 }
 
 fn validate_min_max(base_datatype: DataType, limits: MinMaxLengthType) -> Check
-    ensures { λ r. ⌜ numberOfCheck r ≡ codedTypeRefusal «base_datatype» (DiagCodedTypeVariant.MinMaxLength limits) ⌝ }
+    ensures { λ r. ⌜ r ≡ codedTypeRefusal «base_datatype» (DiagCodedTypeVariant.MinMaxLength limits) ⌝ }
 {
     if !base_datatype.is_byte_type() {
         return Check::Refused(Refusal::NumericWithVariableLength);

@@ -1,6 +1,5 @@
 // The four variants of a coded type, and what each holds.
 ghost use mathlib.Core.Path.{_≡_};
-ghost use Rattle.kinds.specs.Answers.{numberOfCheck};
 ghost use Rattle.coded.specs.Refusals.{minMaxRefusal, limitsRefusal};
 ghost use Rattle.coded.specs.Making.{newMinMax, outcomeOfMinMax};
 use kinds::BitLength;
@@ -93,7 +92,7 @@ impl MinMaxLengthType {
 }
 
 fn validate_limits(min_length: u32, max_length: MaxLength) -> Check
-    ensures { λ r. ⌜ numberOfCheck r ≡ minMaxRefusal «min_length» «max_length» ⌝ }
+    ensures { λ r. ⌜ r ≡ minMaxRefusal «min_length» «max_length» ⌝ }
 {
     match max_length {
         MaxLength::Most(most) => {
@@ -112,7 +111,7 @@ fn validate_limits(min_length: u32, max_length: MaxLength) -> Check
 impl DiagCodedTypeVariant {
     // 12 and 13, where the variant has limits.
     pub fn validate_limits(self) -> Check
-        ensures { λ r. ⌜ numberOfCheck r ≡ limitsRefusal self ⌝ }
+        ensures { λ r. ⌜ r ≡ limitsRefusal self ⌝ }
     {
         match self {
             DiagCodedTypeVariant::LeadingLengthInfo(_) => Check::Passed,

@@ -11,7 +11,7 @@ use Rattle.masks.specs.Mask.{noMask, plainMask, condensedMask}
 use Rattle.masks.specs.Plain.{masked}
 use Rattle.condensed.specs.Condensed.{replaced}
 use Rattle.pack.specs.declared.Packing.{Packing}
-use Rattle.pack.specs.Packing.{packedBitsUnder, packedSource}
+use Rattle.pack.specs.CodePacking.{packedBitsUnder, packedSource}
 use Rattle.cutout.specs.CutOut.{readied, put}
 use Rattle.cutout.proofs.Cleared.{plain-cleared, condensed-cleared}
 

@@ -5,7 +5,7 @@ ghost use lib.ListN.{length};
 ghost use Rattle.order.specs.Order.{ordered};
 ghost use Rattle.masks.specs.Mask.{maskOf};
 ghost use Rattle.pack.specs.Source.{sizeUnder};
-ghost use Rattle.pack.specs.Packing.{packedSource};
+ghost use Rattle.pack.specs.CodePacking.{packedSource};
 ghost use Rattle.cutout.specs.CutOut.{cleared, put};
 use kinds::BitLength;
 use kinds::ByteOrder;

@@ -1,4 +1,3 @@
--- `Refused` has demand 1; below it, `Numbers` has which numbers rules give, and `Sizes` that writes keep a payload's size.
-pub mod Numbers
+-- `Refused` has demand 1, and below it `Sizes` that writes keep a payload's size.
 pub mod Sizes
 pub mod Refused

@@ -11,7 +11,7 @@ use Rattle.bits.proofs.Moves.{length-injected, length-overlaid}
 use Rattle.masks.specs.Mask.{Mask, noMask, plainMask, condensedMask}
 use Rattle.pack.specs.Source.{Source}
 use Rattle.cutout.specs.CutOut.{cleared, readied, put}
-use Rattle.payload.specs.Answers.{Payload}
+use Rattle.payload.specs.Payload.{Payload}
 use Rattle.payload.specs.Writing.{spliced, inCutOut, grown, cutBytes, cutEnd, written}
 
 -- f keeps the size of what it changes

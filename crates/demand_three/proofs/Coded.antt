@@ -1,34 +1,35 @@
 -- Demand 3 for coded types and their stores: their calls leave what the statement's calls leave, and so changing a field by calls equals
 -- building anew by calls.
 use mathlib.Core.Path.{_≡_, refl, sym, ap, _∙_}
-use mathlib.Core.Bool.{Bool, true, cond}
-use mathlib.Core.List.{List, [], _∷_, _++_, map, map-append, List·Permᴰ, List·Permᴰ·nil, List·Permᴰ·cons, List·Permᴰ·swap, List·Permᴰ·trans}
-use Prim.Native.Nat.{ℕ, _≤_}
+use mathlib.Core.Bool.{Bool, true}
+use mathlib.Core.List.{List, [], _∷_, _++_, map, map-append, List·Permᴰ, Permᴰ·map}
+use Prim.Native.Nat.{ℕ, _+_, _≤_}
 use native.Mathlib.Omega.{arith}
 use lib.ListN.{length, replicate, length-replicate}
-use lib.Dec.{eqb, ltb}
-use borrow.Author.Tests.{eqb-true}
+use borrow.Author.Tests.{le-ltb}
 use Rattle.kinds.specs.declared.types.DataType.{DataType}
+use Rattle.kinds.specs.declared.refusals.Check.{Check}
+use Rattle.kinds.specs.declared.refusals.Check.the-variants.{Passed, Refused}
 use Rattle.kinds.specs.Types.{byteOrder}
+use Rattle.kinds.specs.Answers.{wrote}
+use Rattle.kinds.specs.Outcomes.{orElse, Outcome, Answer, answer}
+use Rattle.kinds.proofs.Outcomes.{orElse-passed}
 use Rattle.coded.specs.declared.variants.StandardLengthType.{StandardLengthType}
 use Rattle.coded.specs.declared.variants.DiagCodedTypeVariant.the-variants.{StandardLength}
 use Rattle.coded.specs.declared.coded_type.DiagCodedType.{DiagCodedType}
 use Rattle.field.specs.Field.{maskIn}
-use Rattle.kinds.proofs.Rules.{rule-zero, orElse-zero}
-use Rattle.field.specs.Refusals.{sizesRefusal, callRefusal, writeCallRefusal}
-use Rattle.payload.specs.Answers.{Payload, Encoded, done, payloadOf}
-use Rattle.payload.proofs.Ways as payload
-use Rattle.unpack.proofs.Answers as unpack
-use Rattle.decode.specs.Decode.{decoded}
-use Rattle.encode.specs.Encode.{encoded}
-use Rattle.clear.specs.Clear.{clearedField}
-use Rattle.ownership.specs.Effects.{clearedIn}
+use Rattle.field.specs.Refusals.{slicesRefusal, descriptionRefusal}
+use Rattle.field.proofs.Slices.{slices-fit}
+use Rattle.payload.specs.Payload.{Payload, payloadOf, writeAnswer}
+use Rattle.unpack.specs.Found.{readAnswer}
+use Rattle.calls.specs.Calls.{byType, called, decoded, encoded, clearedField}
+use Rattle.ownership.proofs.Effects.{clearedIn}
 use Rattle.ownership.proofs.Clears.{length-clearedIn}
 use Rattle.ownership.proofs.Permutations.{total, total-append, total-permuted}
-use Rattle.demand_three.specs.Changing.{Placed, Entry, with, write, clear, readBack, zeros, build, among, change, accepted, allAccepted, disjoint, cutOf}
+use Rattle.demand_three.specs.Changing.{Placed, Entry, with, write, clear, readBack, zeros, build, between, change, accepted, allAccepted, disjoint, cutOf}
 use Rattle.demand_three.proofs.Calls.{accepted-taken, write-done, clear-done}
-use Rattle.demand_three.proofs.Owners.{refuses, refusing, first-passes, refusing-cons, none-refusing}
-use Rattle.demand_three.proofs.Building.{builtOn, next, length-next, build-on, length-builtOn}
+use Rattle.demand_three.proofs.Owners.{refusing, first-passes, Fitting, fitting, fitting-permuted, fitting-changed, between-accepted}
+use Rattle.demand_three.proofs.Building.{next, length-next, anew, build-anew}
 use Rattle.demand_three.proofs.Changed.{demand-3}
 
 -- a coded type of a given length with its store, at a place
@@ -50,38 +51,41 @@ placedOf d =
       type = d .type;
       order = byteOrder (d .type) (d .high-low);
       len = d .standard .«bit_length» .0;
-      mask = maskIn (d .store) (d .standard);
+      mask = maskIn (d .store) (StandardLength (d .standard));
       at = d .at;
       pos = d .pos;
     }
 
 -- ---- one call
 
-abbrev pub writeBy : Described → List ℕ → Payload → Encoded
-writeBy d v p = encoded (codedOf d) (d .store) v p (d .at) (d .pos)
+abbrev pub writeBy : Described → List ℕ → Payload → Answer Payload
+writeBy d v p = encoded (byType (codedOf d)) (d .store) v p (d .at) (d .pos)
 
-abbrev pub clearBy : Described → Payload → Encoded
-clearBy d p = clearedField (codedOf d) (d .store) p (d .at) (d .pos)
-
--- 43, 44, 42 are not given: of a call with m bytes of input on a payload of n bytes, all used
-abbrev pub legal : ℕ → Described → ℕ → Bool
-legal n d m = eqb (writeCallRefusal (codedOf d) (length (d .store)) m n n) 0
+abbrev pub clearBy : Described → Payload → Answer Payload
+clearBy d p = clearedField (byType (codedOf d)) (d .store) p (d .at) (d .pos)
 
 module _ (d : Described) where
-  pub write-coded : (v : List ℕ) (p : Payload) → writeCallRefusal (codedOf d) (length (d .store)) (length v) (length (p .bytes)) (p .used) ≡ 0
-      → writeBy d v p ≡ write (with (placedOf d) v) p
+  -- 43, 44, 42, 12, 13, 10, 11: what is refused before the field, of a call that lends two slices of so many bytes beside the store
+  abbrev pub refusedBefore : ℕ → ℕ → ℕ → Check
+  refusedBefore a b used = orElse (slicesRefusal 0 (length (d .store)) a b used) (descriptionRefusal (codedOf d) (length (d .store)))
+
+  called-coded : {A : Type 0} (a b used : ℕ) (own : DiagCodedType → Outcome A) → refusedBefore a b used ≡ Passed
+      → called (byType (codedOf d)) (d .store) a b used own ≡ own (codedOf d)
+  called-coded a b used own none =
+      let h = orElse-passed (slicesRefusal 0 (length (d .store)) a b used) (descriptionRefusal (codedOf d) (length (d .store))) none in rw (h .0, h .1)
+
+  pub write-coded : (v : List ℕ) (p : Payload) → refusedBefore (length v) (length (p .bytes)) (p .used) ≡ Passed → writeBy d v p ≡ write (with (placedOf d) v) p
   unfolding encoded
-  write-coded v p none = payload.after-none _ p _ none
+  write-coded v p none = ap (writeAnswer p) (called-coded (length v) (length (p .bytes)) (p .used) _ none)
 
-  pub clear-coded : (p : Payload) → writeCallRefusal (codedOf d) (length (d .store)) 0 (length (p .bytes)) (p .used) ≡ 0
-      → clearBy d p ≡ clear (placedOf d) p
+  pub clear-coded : (p : Payload) → refusedBefore 0 (length (p .bytes)) (p .used) ≡ Passed → clearBy d p ≡ clear (placedOf d) p
   unfolding clearedField
-  clear-coded p none = payload.after-none _ p _ none
+  clear-coded p none = ap (writeAnswer p) (called-coded 0 (length (p .bytes)) (p .used) _ none)
 
-  pub read-coded : (p : Payload) (output : List ℕ) → callRefusal (codedOf d) (length (d .store)) (length (p .bytes)) (length output) ≡ 0
-      → decoded (codedOf d) (d .store) (p .bytes) (d .at) (d .pos) output ≡ readBack (placedOf d) p output
+  pub read-coded : (p : Payload) (output : List ℕ) → refusedBefore (length (p .bytes)) (length output) 0 ≡ Passed
+      → decoded (byType (codedOf d)) (d .store) (p .bytes) (d .at) (d .pos) output ≡ readBack (placedOf d) p output
   unfolding decoded
-  read-coded p output none = unpack.after-none _ _ _ output none
+  read-coded p output none = ap (readAnswer output) (called-coded (length (p .bytes)) (length output) 0 _ none)
 
 -- ---- one call after the other
 
@@ -100,59 +104,57 @@ entries l = map entryOf l
 
 abbrev pub buildBy : List Valued → Payload → Payload
 buildBy [] p = p
-buildBy (x ∷ l) p = buildBy l (writeBy (x .described) (x .value) p .payload)
+buildBy (x ∷ l) p = buildBy l (writeBy (x .described) (x .value) p .left)
 
--- how many of these calls are not legal
-abbrev pub illegal : ℕ → List Valued → ℕ
-illegal n l = total (λ (x : Valued). cond (legal n (x .described) (length (x .value))) 0 1) l
+-- 1 for a refusal
+abbrev pub denied : Check → ℕ
+denied Passed = 0
+denied (Refused r) = 1
+
+-- 1 for a write to n bytes, all used, that is refused before the field
+abbrev pub illegal : ℕ → Valued → ℕ
+illegal n x = denied (refusedBefore (x .described) (length (x .value)) n n)
+
+first-legal : (c : Check) (m : ℕ) → denied c + m ≡ 0 → (c ≡ Passed) × (m ≡ 0)
+first-legal Passed m e = (refl, omega arith)
+first-legal (Refused r) m e = absurd (omega arith)
 
 module _ (n : ℕ) (small : n ≤ 65535) where
-  -- a legal call on n bytes, all used
-  write-legal : (d : Described) (v xs : List ℕ) → legal n d (length v) ≡ true → length xs ≡ n → writeBy d v (payloadOf xs n) ≡ write (with (placedOf d) v) (payloadOf xs n)
-  write-legal d v xs e long =
-      write-coded d v (payloadOf xs n) (rw long (eqb-true (writeCallRefusal (codedOf d) (length (d .store)) (length v) n n) 0 e))
-
-  pub build-coded : (l : List Valued) (xs : List ℕ) → illegal n l ≡ 0 → refusing n (entries l) ≡ 0 → length xs ≡ n → buildBy l (payloadOf xs n) ≡ build (entries l) (payloadOf xs n)
+  pub build-coded : (l : List Valued) (xs : List ℕ) → total (illegal n) l ≡ 0 → refusing n (entries l) ≡ 0 → length xs ≡ n
+      → buildBy l (payloadOf xs n) ≡ build (entries l) (payloadOf xs n)
   unfolding build
   build-coded [] xs i r long = refl
   build-coded (x ∷ l) xs i r long =
       let d = x .described in
       let v = x .value in
-      let a = refusing-cons n (entryOf x) (entries l) r in
+      let a = first-passes (accepted n (placedOf d)) (refusing n (entries l)) r in
       let t = accepted-taken n (placedOf d) small (a .0) in
-      let e = first-passes (legal n d (length v)) (illegal n l) i in
-      let wrote = write-done n (placedOf d) t xs long v in
-      ap (λ (q : Encoded). buildBy l (q .payload)) (write-legal d v xs (e .0) long ∙ wrote)
+      let e = first-legal (refusedBefore d (length v) n n) (total (illegal n) l) i in
+      let written = write-done n (placedOf d) t xs long v in
+      ap (λ (q : Answer Payload). buildBy l (q .left)) (write-coded d v (payloadOf xs n) (rw long (e .0)) ∙ written)
       ∙ build-coded l (next n (placedOf d) v t xs long) (e .1) (a .1) (length-next n (placedOf d) v t xs long)
-      ∙ sym (ap (λ (q : Encoded). build (entries l) (q .payload)) wrote)
+      ∙ sym (ap (λ (q : Answer Payload). build (entries l) (q .left)) written)
 
-  -- a call with a shorter input is legal too
-  legal-empty : (d : Described) (m : ℕ) → legal n d m ≡ true → writeCallRefusal (codedOf d) (length (d .store)) 0 n n ≡ 0
+  -- a call with no input is legal too
+  legal-empty : (d : Described) (m : ℕ) → refusedBefore d m n n ≡ Passed → refusedBefore d 0 n n ≡ Passed
   legal-empty d m e =
-      let none = orElse-zero (sizesRefusal (length (d .store)) m n) _ (eqb-true (writeCallRefusal (codedOf d) (length (d .store)) m n n) 0 e) in
-      let store = rule-zero (ltb 32768 (length (d .store))) 43 _ refl (none .0) in
-      let input = rule-zero (ltb 65535 m) 43 _ refl (store .1) in
-      rw (store .0, rule-zero (ltb 65535 n) 43 0 refl (input .1) .0) (none .1)
+      let h = orElse-passed (slicesRefusal 0 (length (d .store)) m n n) (descriptionRefusal (codedOf d) (length (d .store))) e in
+      let s = slices-fit 0 (length (d .store)) m n n (h .0) in
+      rw (le-ltb 32768 (length (d .store)) (s .0), le-ltb 65535 n small, le-ltb n n (omega arith)) (h .1)
 
   -- a change, of n bytes that are all used
-  change-coded : (d : Described) (v xs : List ℕ) → legal n d (length v) ≡ true → accepted n (placedOf d) ≡ true → length xs ≡ n
-      → writeBy d v (clearBy d (payloadOf xs n) .payload) ≡ change (placedOf d) v (payloadOf xs n)
+  change-coded : (d : Described) (v xs : List ℕ) → refusedBefore d (length v) n n ≡ Passed → accepted n (placedOf d) ≡ true → length xs ≡ n
+      → writeBy d v (clearBy d (payloadOf xs n) .left) ≡ change (placedOf d) v (payloadOf xs n)
   change-coded d v xs e a long =
       let t = accepted-taken n (placedOf d) small a in
       let ys : List ℕ = clearedIn (cutOf (placedOf d)) xs in
       let long-ys : length ys ≡ n = length-clearedIn (cutOf (placedOf d)) xs (rw long (t .inside)) ∙ long in
       let clears : clearBy d (payloadOf xs n) ≡ clear (placedOf d) (payloadOf xs n) = clear-coded d (payloadOf xs n) (rw long (legal-empty d (length v) e)) in
-      let cleared : clear (placedOf d) (payloadOf xs n) ≡ done (payloadOf ys n) = clear-done n (placedOf d) t xs long in
-      ap (λ (q : Encoded). writeBy d v (q .payload)) (clears ∙ cleared) ∙ write-legal d v ys e long-ys
-      ∙ sym (ap (λ (q : Encoded). write (with (placedOf d) v) (q .payload)) cleared)
+      let cleared : clear (placedOf d) (payloadOf xs n) ≡ answer wrote (payloadOf ys n) = clear-done n (placedOf d) t xs long in
+      ap (λ (q : Answer Payload). writeBy d v (q .left)) (clears ∙ cleared) ∙ write-coded d v (payloadOf ys n) (rw long-ys e)
+      ∙ sym (ap (λ (q : Answer Payload). write (with (placedOf d) v) (q .left)) cleared)
 
   -- ---- demand 3, by calls
-
-  permuted-entries : {l l′ : List Valued} → List·Permᴰ l l′ → List·Permᴰ (entries l) (entries l′)
-  permuted-entries List·Permᴰ·nil = List·Permᴰ·nil
-  permuted-entries (List·Permᴰ·cons e d) = List·Permᴰ·cons (ap entryOf e) (permuted-entries d)
-  permuted-entries (List·Permᴰ·swap e₁ e₂) = List·Permᴰ·swap (ap entryOf e₁) (ap entryOf e₂)
-  permuted-entries (List·Permᴰ·trans d₁ d₂) = List·Permᴰ·trans (permuted-entries d₁) (permuted-entries d₂)
 
   module _ (before after : List Valued) (d : Described) (v v′ : List ℕ) (l′ l″ : List Valued) where
     abbrev olds : List Valued
@@ -161,30 +163,23 @@ module _ (n : ℕ) (small : n ≤ 65535) where
     abbrev news : List Valued
     news = before ++ (valued d v′ ∷ after)
 
-    pub changed-by-calls : allAccepted n (entries olds) ≡ true → disjoint n (entries olds) ≡ true → illegal n olds ≡ 0 → illegal n news ≡ 0
+    pub changed-by-calls : allAccepted n (entries olds) ≡ true → disjoint n (entries olds) ≡ true → total (illegal n) olds ≡ 0 → total (illegal n) news ≡ 0
         → List·Permᴰ olds l′ → List·Permᴰ news l″
-        → writeBy d v′ (clearBy d (buildBy l′ (zeros n)) .payload) .payload ≡ buildBy l″ (zeros n)
+        → writeBy d v′ (clearBy d (buildBy l′ (zeros n)) .left) .left ≡ buildBy l″ (zeros n)
     changed-by-calls all apart i j p q =
         let f = placedOf d in
-        let split : entries olds ≡ among (entries before) (entries after) f v = map-append entryOf before (valued d v ∷ after) in
-        let split′ : entries news ≡ among (entries before) (entries after) f v′ = map-append entryOf before (valued d v′ ∷ after) in
-        let none : refusing n (entries olds) ≡ 0 = none-refusing n (entries olds) all in
-        let none-split : refusing n (among (entries before) (entries after) f v) ≡ 0 = rw split at none in
-        let w = refuses n in
-        let parts = total-append w (entries before) (with f v ∷ entries after) in
-        let taken : accepted n f ≡ true = refusing-cons n (with f v) (entries after) (omega (arith, parts, none-split)) .0 in
-        let same-fields : refusing n (entries news) ≡ 0 = rw split′ (total-append w (entries before) (with f v′ ∷ entries after) ∙ sym parts ∙ none-split) in
-        let none′ : refusing n (entries l′) ≡ 0 = sym (total-permuted w (permuted-entries p)) ∙ none in
-        let none″ : refusing n (entries l″) ≡ 0 = sym (total-permuted w (permuted-entries q)) ∙ same-fields in
-        let u : Valued → ℕ = λ x. cond (legal n (x .described) (length (x .value))) 0 1 in
-        let ok : legal n d (length v′) ≡ true = first-passes (legal n d (length v′)) (illegal n after) (omega (arith, total-append u before (valued d v′ ∷ after), j)) .0 in
-        let B : List ℕ = builtOn (entries l′) (replicate n 0) in
-        let statement = build-on n small (entries l′) (replicate n 0) none′ (length-replicate n 0) in
-        let calls = build-coded l′ (replicate n 0) (sym (total-permuted u p) ∙ i) none′ (length-replicate n 0) in
+        let split : entries olds ≡ between (entries before) (entries after) f v = map-append entryOf before (valued d v ∷ after) in
+        let split′ : entries news ≡ between (entries before) (entries after) f v′ = map-append entryOf before (valued d v′ ∷ after) in
+        let fit : Fitting n (entries olds) = fitting n (entries olds) all apart in
+        let fit-split : Fitting n (between (entries before) (entries after) f v) = rw split at fit in
+        let fit-new : Fitting n (entries news) = rw split′ (fitting-changed n (entries before) (entries after) f v v′ fit-split) in
+        let ok = first-legal (refusedBefore d (length v′) n n) (total (illegal n) after) (omega (arith, total-append (illegal n) before (valued d v′ ∷ after), j)) .0 in
+        let made = build-anew n small (Permᴰ·map entryOf p) fit in
+        let built-by = build-coded l′ (replicate n 0) (sym (total-permuted (illegal n) p) ∙ i) (fitting-permuted n (Permᴰ·map entryOf p) fit .none-refuses) (length-replicate n 0) in
         let whole =
         demand-3 n (entries before) (entries after) f v v′ (entries l′) (entries l″)
-        (record { small = small; all-accepted = rw split at all; own-disjoint = rw split at apart; one-order = rw split at (permuted-entries p); other-order = rw split′ at (permuted-entries q) }) in
-        ap (λ (x : Payload). writeBy d v′ (clearBy d x .payload) .payload) (calls ∙ statement)
-        ∙ ap (λ (e : Encoded). e .payload) (change-coded d v′ B ok taken (length-builtOn n small (entries l′) (replicate n 0) none′ (length-replicate n 0)))
-        ∙ sym (ap (λ (x : Payload). change f v′ x .payload) statement) ∙ whole .b
-        ∙ sym (build-coded l″ (replicate n 0) (sym (total-permuted u q) ∙ j) none″ (length-replicate n 0))
+        (record { small = small; all-accepted = rw split at all; own-disjoint = rw split at apart; one-order = rw split at (Permᴰ·map entryOf p); other-order = rw split′ at (Permᴰ·map entryOf q) }) in
+        ap (λ (x : Payload). writeBy d v′ (clearBy d x .left) .left) (built-by ∙ made .builds)
+        ∙ ap (λ (e : Answer Payload). e .left) (change-coded d v′ (anew n (entries l′)) ok (between-accepted n (entries before) (entries after) f v v′ fit-split) (made .shows .long))
+        ∙ sym (ap (λ (x : Payload). change f v′ x .left) (made .builds)) ∙ whole .b
+        ∙ sym (build-coded l″ (replicate n 0) (sym (total-permuted (illegal n) q) ∙ j) (fitting-permuted n (Permᴰ·map entryOf q) fit-new .none-refuses) (length-replicate n 0))

@@ -5,7 +5,7 @@ use mathlib.Core.Bool.{Bool, true, cond}
 use mathlib.Core.List.{List, [], _∷_, _++_, List·Permᴰ·swap, Permᴰ·refl}
 use Prim.Native.Nat.{ℕ, zero, suc, _≤_, _<_}
 use native.Mathlib.Omega.{arith}
-use lib.ListN.{length, getD, drop, replicate}
+use lib.ListN.{length, getD, take, drop, replicate}
 use lib.Count.{ones}
 use lib.Dec.{eqb}
 use Rattle.kinds.proofs.Examples.{Example, equal, hold, _is_}
@@ -14,6 +14,7 @@ use Rattle.kinds.specs.declared.types.DataType.{DataType}
 use Rattle.kinds.specs.declared.types.DataType.the-variants.{Int32, UInt32, Float32, ByteField}
 use Rattle.kinds.specs.declared.types.ByteOrder.the-variants.{Keep, Reverse}
 use Rattle.kinds.specs.Answers.{read}
+use Rattle.kinds.specs.Outcomes.{Answer, answer}
 use Rattle.order.specs.Order.{ordered}
 use Rattle.bits.specs.Bits.{bit, bitAt, number, packed}
 use Rattle.bits.specs.Moves.{first, extracted, injected, overlaid}
@@ -23,11 +24,11 @@ use Rattle.masks.specs.Plain.{maskBit}
 use Rattle.condensed.specs.Condensed.{frontBit, onesBelow, gathered, onesOf, condensed, replacement, replaced}
 use Rattle.pack.specs.Source.{standardBits}
 use Rattle.cutout.specs.CutOut.{cleared, readied}
-use Rattle.payload.specs.Answers.{payloadOf}
+use Rattle.payload.specs.Payload.{payloadOf}
 use Rattle.payload.specs.Writing.{spliced, inCutOut, grown, writing, clearing}
-use Rattle.unpack.specs.Answers.{Decoded, answer}
+use Rattle.unpack.specs.Found.{readAnswer}
 use Rattle.unpack.specs.Unpacked.{unpacked}
-use Rattle.readers.specs.Finding.{fieldFinding}
+use Rattle.readers.specs.Finding.{bitsFinding}
 use Rattle.ownership.specs.Ownership.{footprint, owns}
 use Rattle.demand_three.specs.Changing.{Placed, Entry, with, readBack, zeros, build, allAccepted, cutOf, apartBelow, apartFrom, disjoint, wholeOrShort, insideBytes, unmasked, change, Changed}
 use Rattle.demand_three.proofs.Changed.{demand-3}
@@ -69,7 +70,7 @@ changed n (e ∷ l) v =
     judged n (e ∷ l)
     ++ (footprints n (e ∷ l)
     ++ (build (e ∷ l) (zeros n) .bytes
-    ++ change (e .field) v (build (e ∷ l) (zeros n)) .payload .bytes))
+    ++ change (e .field) v (build (e ∷ l) (zeros n)) .left .bytes))
 
 abbrev apartly : List ℕ → List ℕ → List ℕ → List ℕ
 apartly owned built new = 1 ∷ 1 ∷ (owned ++ (built ++ new))
@@ -77,7 +78,7 @@ apartly owned built new = 1 ∷ 1 ∷ (owned ++ (built ++ new))
 -- accepted and apart, what a change of the first field makes, and what building anew does
 abbrev against : ℕ → List Entry → List ℕ → List ℕ
 against n [] v = []
-against n (e ∷ l) v = judged n (e ∷ l) ++ (change (e .field) v (build (e ∷ l) (zeros n)) .payload .bytes ++ build (with (e .field) v ∷ l) (zeros n) .bytes)
+against n (e ∷ l) v = judged n (e ∷ l) ++ (change (e .field) v (build (e ∷ l) (zeros n)) .left .bytes ++ build (with (e .field) v ∷ l) (zeros n) .bytes)
 
 -- the premises of the read-back: length, place, mask, and of the value its size, that it is bytes, and its bits
 abbrev premises : Placed → List ℕ → List ℕ
@@ -94,11 +95,11 @@ abbrev premised : ℕ → ℕ → ℕ → ℕ → ℕ → ℕ → List ℕ
 premised a b c d e f = a ∷ b ∷ c ∷ d ∷ e ∷ f ∷ []
 
 -- number, bits and bytes of what is read after a change of n bytes of ones, and the output
-abbrev flatDecoded : Decoded → List ℕ
-flatDecoded d = d .report .number ∷ d .report .«bit_count» ∷ d .report .«byte_count» ∷ d .output
+abbrev flat : Answer (List ℕ) → List ℕ
+flat a = take 3 (a .report) ++ a .left
 
 abbrev into : List ℕ → ℕ → Placed → List ℕ → List ℕ
-into output n f v = flatDecoded (readBack f (change f v (payloadOf (replicate n 0xFF) n) .payload) output)
+into output n f v = flat (readBack f (change f v (payloadOf (replicate n 0xFF) n) .left) output)
 
 abbrev back : ℕ → Placed → List ℕ → List ℕ
 back n f v = premises f v ++ into (replicate 3 0xEE) n f v
@@ -167,7 +168,7 @@ examples =
     ∷ []
 
 all-hold : hold examples ≡ true
-unfolding examples ordered bit bitAt number packed extracted injected overlaid maskBit frontBit onesBelow gathered onesOf condensed replacement replaced standardBits cleared readied spliced inCutOut grown writing clearing answer unpacked fieldFinding footprint owns build allAccepted apartBelow apartFrom disjoint ones
+unfolding examples ordered bit bitAt number packed extracted injected overlaid maskBit frontBit onesBelow gathered onesOf condensed replacement replaced standardBits cleared readied spliced inCutOut grown writing clearing readAnswer unpacked bitsFinding footprint owns build allAccepted apartBelow apartFrom disjoint ones
 all-hold = refl
 
 -- the premises can be met: the theorem for two fields across the same bytes, built in one order and anew in the other
@@ -186,7 +187,7 @@ small-bytes zero = omega arith
 small-bytes (suc j) = omega arith
 
 alone : (output : List ℕ) → 1 ≤ length output
-    → readBack (high 8 0 0) (change (high 8 0 0) (0xA5 ∷ []) (build (with (high 8 0 0) [] ∷ []) (zeros 1)) .payload) output ≡ record { report = read 8 1; output = 0xA5 ∷ drop 1 output }
+    → readBack (high 8 0 0) (change (high 8 0 0) (0xA5 ∷ []) (build (with (high 8 0 0) [] ∷ []) (zeros 1)) .left) output ≡ answer (read 8 1) (0xA5 ∷ drop 1 output)
 unfolding ordered bit bitAt number packed injected overlaid standardBits cleared readied spliced inCutOut grown writing footprint owns build allAccepted apartBelow apartFrom disjoint
 alone output room =
     demand-3 1 [] [] (high 8 0 0) [] (0xA5 ∷ []) (with (high 8 0 0) [] ∷ []) (with (high 8 0 0) (0xA5 ∷ []) ∷ [])

@@ -1,14 +1,14 @@
 -- Lists of fields that are accepted and own no bit in common, counted: a count does not depend on the order of the list.
-use mathlib.Core.Path.{_≡_, refl, sym}
+use mathlib.Core.Path.{_≡_, refl, sym, _∙_}
 use mathlib.Core.Logic.{⊎-elim}
 use mathlib.Core.Bool.{Bool, true, false, cond, not, _&&_}
-use mathlib.Core.List.{List, [], _∷_}
+use mathlib.Core.List.{List, [], _∷_, List·Permᴰ}
 use Prim.Native.Nat.{ℕ, zero, suc, _+_, _*_, _≤_, _<_}
 use native.Mathlib.Omega.{arith}
+use Rattle.kinds.proofs.Outcomes.{both}
 use Rattle.kinds.proofs.Compare.{same}
-use Rattle.ownership.proofs.Permutations.{total}
-use Rattle.demand_three.specs.Changing.{Placed, Entry, accepted, allAccepted, own, apartBelow, apart, apartFrom, disjoint}
-use Rattle.demand_three.proofs.Calls.{both}
+use Rattle.ownership.proofs.Permutations.{total, total-append, total-permuted}
+use Rattle.demand_three.specs.Changing.{Placed, Entry, with, accepted, allAccepted, own, apartBelow, apart, apartFrom, disjoint, between}
 
 -- 1 for a field that is not accepted, and how many of a list are not
 abbrev pub refuses : ℕ → Entry → ℕ
@@ -24,7 +24,7 @@ ownsAt n k e = cond (own n (e .field) k) 1 0
 abbrev pub owners : ℕ → ℕ → List Entry → ℕ
 owners n k l = total (ownsAt n k) l
 
-pub none-refusing : (n : ℕ) (l : List Entry) → allAccepted n l ≡ true → refusing n l ≡ 0
+none-refusing : (n : ℕ) (l : List Entry) → allAccepted n l ≡ true → refusing n l ≡ 0
 unfolding allAccepted
 none-refusing n [] e = refl
 none-refusing n (x ∷ l) e =
@@ -35,17 +35,11 @@ pub first-passes : (b : Bool) (m : ℕ) → cond b 0 1 + m ≡ 0 → (b ≡ true
 first-passes true m e = (refl, omega arith)
 first-passes false m e = absurd (omega arith)
 
-pub refusing-cons : (n : ℕ) (x : Entry) (l : List Entry) → refusing n (x ∷ l) ≡ 0 → (accepted n (x .field) ≡ true) × (refusing n l ≡ 0)
-refusing-cons n x l e = first-passes (accepted n (x .field)) (refusing n l) e
-
 -- ---- no bit has two owners
 
-first-owns-not : (b : Bool) (m : ℕ) → cond b 1 0 + m ≡ 0 → (b ≡ false) × (m ≡ 0)
+pub first-owns-not : (b : Bool) (m : ℕ) → cond b 1 0 + m ≡ 0 → (b ≡ false) × (m ≡ 0)
 first-owns-not true m e = absurd (omega arith)
 first-owns-not false m e = (refl, omega arith)
-
-pub owners-cons : (n k : ℕ) (x : Entry) (l : List Entry) → owners n k (x ∷ l) ≡ 0 → (own n (x .field) k ≡ false) × (owners n k l ≡ 0)
-owners-cons n k x l e = first-owns-not (own n (x .field) k) (owners n k l) e
 
 clash : (a b : Bool) → not (a && b) ≡ true → a ≡ true → b ≡ false
 clash true true h e = cc
@@ -70,9 +64,35 @@ at-most-one : (b : Bool) (m : ℕ) → (b ≡ true → m ≡ 0) → m ≤ 1 → 
 at-most-one true m e l = let none = e refl in omega arith
 at-most-one false m e l = omega arith
 
-pub one-owner : (n : ℕ) (l : List Entry) (k : ℕ) → k < 8 * n → disjoint n l ≡ true → owners n k l ≤ 1
+one-owner : (n : ℕ) (l : List Entry) (k : ℕ) → k < 8 * n → disjoint n l ≡ true → owners n k l ≤ 1
 unfolding disjoint
 one-owner n [] k h e = omega arith
 one-owner n (x ∷ l) k h e =
     let split = both (apartFrom n (x .field) l) (disjoint n l) e in
     at-most-one (own n (x .field) k) (owners n k l) (none-beside n (x .field) l k h (split .0)) (one-owner n l k h (split .1))
+
+-- ---- in any order, and with any value of one field
+
+-- no field is refused, and no bit has two owners
+pub record Fitting (n : ℕ) (l : List Entry) : Type 0 where
+  pub none-refuses : refusing n l ≡ 0
+  pub one-owns : (k : ℕ) → k < 8 * n → owners n k l ≤ 1
+
+pub fitting : (n : ℕ) (l : List Entry) → allAccepted n l ≡ true → disjoint n l ≡ true → Fitting n l
+fitting n l a d = record { none-refuses = none-refusing n l a; one-owns = λ k h. one-owner n l k h d }
+
+pub fitting-permuted : (n : ℕ) {l l′ : List Entry} → List·Permᴰ l l′ → Fitting n l → Fitting n l′
+fitting-permuted n p s =
+    record { none-refuses = sym (total-permuted (refuses n) p) ∙ s .none-refuses; one-owns = λ k h. rw (sym (total-permuted (ownsAt n k) p)) (s .one-owns k h) }
+
+module _ (n : ℕ) (before after : List Entry) (f : Placed) (v v′ : List ℕ) (s : Fitting n (between before after f v)) where
+  -- a count that goes by fields alone
+  same-fields : (w : Placed → ℕ) → total (λ (e : Entry). w (e .field)) (between before after f v′) ≡ total (λ (e : Entry). w (e .field)) (between before after f v)
+  same-fields w = total-append (λ (e : Entry). w (e .field)) before (with f v′ ∷ after) ∙ sym (total-append (λ (e : Entry). w (e .field)) before (with f v ∷ after))
+
+  pub fitting-changed : Fitting n (between before after f v′)
+  fitting-changed =
+      record { none-refuses = same-fields (λ g. cond (accepted n g) 0 1) ∙ s .none-refuses; one-owns = λ k h. rw (same-fields (λ g. cond (own n g k) 1 0)) (s .one-owns k h) }
+
+  pub between-accepted : accepted n f ≡ true
+  between-accepted = first-passes (accepted n f) (refusing n after) (omega (arith, total-append (refuses n) before (with f v ∷ after), s .none-refuses)) .0

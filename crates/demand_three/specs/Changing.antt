@@ -8,15 +8,16 @@ use lib.Dec.{eqb, ltb, leb}
 use Rattle.kinds.specs.declared.types.DataType.{DataType}
 use Rattle.kinds.specs.declared.types.ByteOrder.{ByteOrder}
 use Rattle.kinds.specs.Types.{isNumeric, bytesFor}
-use Rattle.kinds.specs.Answers.{read}
+use Rattle.kinds.specs.Answers.{numberIn, read}
+use Rattle.kinds.specs.Outcomes.{Answer, answer}
 use Rattle.bits.specs.Bits.{bitAt}
 use Rattle.masks.specs.Mask.{Mask, noMask, plainMask, condensedMask}
-use Rattle.field.specs.Field.{Field, standard}
-use Rattle.pack.specs.Source.{counted, sizeUnder}
-use Rattle.payload.specs.Answers.{Payload, Encoded, payloadOf}
-use Rattle.unpack.specs.Answers.{Decoded}
-use Rattle.decode.specs.Decode.{decodeOf}
-use Rattle.encode.specs.Encode.{encodeOf}
+use Rattle.field.specs.declared.Shape.the-variants.{Standard}
+use Rattle.field.specs.Field.{Field, field}
+use Rattle.pack.specs.Source.{effectiveMask, sizeUnder}
+use Rattle.payload.specs.Payload.{Payload, payloadOf}
+use Rattle.readers.specs.Finding.{decodeOf}
+use Rattle.writers.specs.Shapes.{encodeOf}
 use Rattle.clear.specs.Clear.{clearOf}
 use Rattle.ownership.specs.Ownership.{Cut, owns}
 
@@ -37,19 +38,19 @@ pub record Entry : Type 0 where
 abbrev pub with : Placed → List ℕ → Entry
 with f v = record { field = f; value = v }
 
-abbrev pub fieldOf : Placed → Field
-fieldOf f = record { type = f .type; order = f .order; shape = standard (f .len) (f .mask) }
+abbrev pub fieldAt : Placed → Field
+fieldAt f = field (f .type) (f .order) (Standard (record { 0 = f .len })) (f .mask)
 
 -- ---- the calls
 
-abbrev pub write : Entry → Payload → Encoded
-write e p = encodeOf (fieldOf (e .field)) (e .value) p (e .field .at) (e .field .pos)
+abbrev pub write : Entry → Payload → Answer Payload
+write e p = encodeOf (fieldAt (e .field)) (e .value) p (e .field .at) (e .field .pos)
 
-abbrev pub clear : Placed → Payload → Encoded
-clear f p = clearOf (fieldOf f) p (f .at) (f .pos)
+abbrev pub clear : Placed → Payload → Answer Payload
+clear f p = clearOf (fieldAt f) p (f .at) (f .pos)
 
-abbrev pub readBack : Placed → Payload → List ℕ → Decoded
-readBack f p output = decodeOf (fieldOf f) (p .bytes) (f .at) (f .pos) output
+abbrev pub readBack : Placed → Payload → List ℕ → Answer (List ℕ)
+readBack f p output = decodeOf (fieldAt f) (p .bytes) (f .at) (f .pos) output
 
 -- n zero bytes, all used
 abbrev pub zeros : ℕ → Payload
@@ -58,15 +59,15 @@ zeros n = payloadOf (replicate n 0) n
 -- one write after the other
 unfoldable pub build : List Entry → Payload → Payload
 build [] p = p
-build (e ∷ l) p = build l (write e p .payload)
+build (e ∷ l) p = build l (write e p .left)
 
 -- a call gives 0 and keeps the used length
-abbrev pub succeeds : ℕ → Encoded → Bool
-succeeds n e = eqb (e .report .number) 0 && eqb (e .payload .used) n
+abbrev pub succeeds : ℕ → Answer Payload → Bool
+succeeds n e = eqb (numberIn (e .report)) 0 && eqb (e .left .used) n
 
 unfoldable pub allSucceed : ℕ → List Entry → Payload → Bool
 allSucceed n [] p = true
-allSucceed n (e ∷ l) p = succeeds n (write e p) && allSucceed n l (write e p .payload)
+allSucceed n (e ∷ l) p = succeeds n (write e p) && allSucceed n l (write e p .left)
 
 -- ---- the premises
 
@@ -80,7 +81,7 @@ allAccepted n (e ∷ l) = accepted n (e .field) && allAccepted n l
 
 -- the cut-out that encode uses: an empty mask counts as none, and a condensed one sets the length
 abbrev pub cutOf : Placed → Cut
-cutOf f = record { order = f .order; at = f .at; pos = f .pos; size = sizeUnder (counted (f .mask)) (f .len); mask = counted (f .mask) }
+cutOf f = record { order = f .order; at = f .at; pos = f .pos; size = sizeUnder (effectiveMask (f .mask)) (f .len); mask = effectiveMask (f .mask) }
 
 -- bit k of n bytes is one of the field's own
 abbrev pub own : ℕ → Placed → ℕ → Bool
@@ -128,21 +129,21 @@ pub record Exact (len : ℕ) (v : List ℕ) : Type 0 where
 -- ---- the statement
 
 -- a field with its value between other fields
-abbrev pub among : List Entry → List Entry → Placed → List ℕ → List Entry
-among before after f v = before ++ (with f v ∷ after)
+abbrev pub between : List Entry → List Entry → Placed → List ℕ → List Entry
+between before after f v = before ++ (with f v ∷ after)
 
 -- one field of what was built is changed: its bits are cleared, and the new value is written
-abbrev pub change : Placed → List ℕ → Payload → Encoded
-change f v p = write (with f v) (clear f p .payload)
+abbrev pub change : Placed → List ℕ → Payload → Answer Payload
+change f v p = write (with f v) (clear f p .left)
 
 module _ (n : ℕ) (before after : List Entry) (f : Placed) (v v′ : List ℕ) (l′ l″ : List Entry) where
   -- l′ is the list of the fields in any order, and l″ in any other, with a new value for one of them
   pub record Premises : Type 0 where
     pub small : n ≤ 65535
-    pub all-accepted : allAccepted n (among before after f v) ≡ true
-    pub own-disjoint : disjoint n (among before after f v) ≡ true
-    pub one-order : List·Permᴰ (among before after f v) l′
-    pub other-order : List·Permᴰ (among before after f v′) l″
+    pub all-accepted : allAccepted n (between before after f v) ≡ true
+    pub own-disjoint : disjoint n (between before after f v) ≡ true
+    pub one-order : List·Permᴰ (between before after f v) l′
+    pub other-order : List·Permᴰ (between before after f v′) l″
 
   pub record Changed : Type 0 where
     -- every call gives 0 and keeps the used length
@@ -152,15 +153,15 @@ module _ (n : ℕ) (before after : List Entry) (f : Placed) (v v′ : List ℕ) 
     pub a-anew : allSucceed n l″ (zeros n) ≡ true
     -- and the payload keeps its size
     pub a-size : length (build l′ (zeros n) .bytes) ≡ n
-    pub a-size-changed : length (change f v′ (build l′ (zeros n)) .payload .bytes) ≡ n
+    pub a-size-changed : length (change f v′ (build l′ (zeros n)) .left .bytes) ≡ n
     -- what is changed is what is built anew
-    pub b : change f v′ (build l′ (zeros n)) .payload ≡ build l″ (zeros n)
+    pub b : change f v′ (build l′ (zeros n)) .left ≡ build l″ (zeros n)
     -- and no bit changes but the field's own
-    pub c : (k : ℕ) → own n f k ≡ false → bitAt (build l′ (zeros n) .bytes) k ≡ bitAt (change f v′ (build l′ (zeros n)) .payload .bytes) k
+    pub c : (k : ℕ) → own n f k ≡ false → bitAt (build l′ (zeros n) .bytes) k ≡ bitAt (change f v′ (build l′ (zeros n)) .left .bytes) k
     -- the new value is read back, and what is past it in the output stays
     pub d : wholeOrShort (f .len) ≡ true → insideBytes f ≡ true → unmasked (f .mask) ≡ true → Exact (f .len) v′
         → (output : List ℕ) → bytesFor (f .len) ≤ length output
-        → readBack f (change f v′ (build l′ (zeros n)) .payload) output ≡ record { report = read (f .len) (bytesFor (f .len)); output = v′ ++ drop (bytesFor (f .len)) output }
+        → readBack f (change f v′ (build l′ (zeros n)) .left) output ≡ answer (read (f .len) (bytesFor (f .len))) (v′ ++ drop (bytesFor (f .len)) output)
 
 abbrev pub Demand3 : Type 0
 Demand3 =

@@ -1,3 +1,3 @@
--- `Outside` has the law of a part that ends past its store, and `Numbers` what is never refused first.
+-- `Slices` has what is known of the slices of a call, and `Outside` whether a part ends past a store.
 pub mod Outside
-pub mod Numbers
+pub mod Slices

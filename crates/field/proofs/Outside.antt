@@ -10,7 +10,7 @@ use borrow.Author.Tests.{lt-ltb, le-ltb}
 use Rattle.kinds.proofs.Compare.{below}
 use Rattle.coded.specs.declared.variants.OptionalPlace.{OptionalPlace}
 use Rattle.coded.specs.declared.variants.OptionalPlace.the-variants.{At, Absent}
-use Rattle.field.specs.Field.{placed}
+use Rattle.field.specs.Field.{partAt}
 
 pub less-room : (n at len : ℕ) → at ≤ n → ltb (n - at) len ≡ ltb n (at + len)
 less-room n at len h =
@@ -18,9 +18,9 @@ less-room n at len h =
     (below (n - at) len)
 
 -- a part of a store is not longer than the store
-pub placed-le : (store : List ℕ) (p : OptionalPlace) {n : ℕ} → length store ≤ n → length (placed store p) ≤ n
-placed-le store Absent h = omega arith
-placed-le store (At p) h =
+pub part-le : (store : List ℕ) (p : OptionalPlace) {n : ℕ} → length store ≤ n → length (partAt store p) ≤ n
+part-le store Absent h = omega arith
+part-le store (At p) h =
     ⊎-elim (λ (l : length store < p .at + p .len). rw (lt-ltb (length store) (p .at + p .len) l) (omega arith))
     (λ (l : p .at + p .len ≤ length store). rw (le-ltb (length store) (p .at + p .len) l) (simp (length-take, length-drop) (omega arith)))
     (below (length store) (p .at + p .len))

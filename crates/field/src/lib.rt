@@ -1,16 +1,80 @@
-// A coded type with its store: the part of the store that it speaks of, and what is refused before a call's own rules.
+// A coded type with its store taken apart into a field: what its variant says, its mask as a part of the store, and what is
+// refused before a call's own rules.
 ghost use mathlib.Core.Path.{_≡_};
-ghost use Rattle.kinds.specs.Answers.{numberOfCheck};
-ghost use Rattle.field.specs.Field.{outside, partOf, placed, useOf};
-ghost use Rattle.field.specs.Refusals.{sizesRefusal, placeOf, placeRefusal, describedRefusal, callRefusal, writeCallRefusal};
-ghost use Rattle.field.specs.Names.{named, keyName};
+ghost use Rattle.field.specs.Field.{outside, partOf, partAt, storePlace, useAt, useOf, shapeOf};
+ghost use Rattle.field.specs.Refusals.{slicesRefusal, placeRefusal, descriptionRefusal};
 use coded::DiagCodedType;
 use coded::DiagCodedTypeVariant;
+use coded::MinMaxLengthType;
 use coded::OptionalPlace;
 use coded::Place;
+use kinds::BitLength;
 use kinds::Check;
 use kinds::Refusal;
 use masks::MaskUse;
+
+// What a variant says, but for the parts of the store that it speaks of.
+pub enum Shape {
+    Leading(BitLength),
+    MinMax(MinMaxLengthType),
+    Standard(BitLength),
+    Param,
+}
+
+pub fn shape_of(type_: DiagCodedTypeVariant) -> Shape
+    ensures { λ r. ⌜ r ≡ shapeOf «type_» ⌝ }
+{
+    match type_ {
+        DiagCodedTypeVariant::LeadingLengthInfo(bits) => Shape::Leading(bits),
+        DiagCodedTypeVariant::MinMaxLength(limits) => Shape::MinMax(limits),
+        DiagCodedTypeVariant::StandardLength(standard) => {
+            let bits = standard.bit_length;
+            Shape::Standard(bits)
+        }
+        DiagCodedTypeVariant::ParamLengthInfo(_) => Shape::Param,
+    }
+}
+
+// The part of the store that a variant speaks of.
+fn store_place(type_: DiagCodedTypeVariant) -> OptionalPlace
+    ensures { λ r. ⌜ r ≡ storePlace «type_» ⌝ }
+{
+    match type_ {
+        DiagCodedTypeVariant::LeadingLengthInfo(_) => OptionalPlace::Absent,
+        DiagCodedTypeVariant::MinMaxLength(_) => OptionalPlace::Absent,
+        DiagCodedTypeVariant::StandardLength(standard) => standard.bit_mask,
+        DiagCodedTypeVariant::ParamLengthInfo(name) => OptionalPlace::At(name),
+    }
+}
+
+// What a field does with the mask at an optional place.
+fn use_at(place: OptionalPlace, condensed: bool) -> MaskUse
+    ensures { λ r. ⌜ r ≡ useAt place condensed ⌝ }
+{
+    match place {
+        OptionalPlace::At(_) => {
+            if condensed {
+                return MaskUse::Condensed;
+            }
+            MaskUse::Plain
+        }
+        OptionalPlace::Absent => MaskUse::Absent,
+    }
+}
+
+pub fn use_of(type_: DiagCodedTypeVariant) -> MaskUse
+    ensures { λ r. ⌜ r ≡ useOf «type_» ⌝ }
+{
+    match type_ {
+        DiagCodedTypeVariant::LeadingLengthInfo(_) => MaskUse::Absent,
+        DiagCodedTypeVariant::MinMaxLength(_) => MaskUse::Absent,
+        DiagCodedTypeVariant::StandardLength(standard) => {
+            let bit_mask = standard.bit_mask;
+            use_at(bit_mask, standard.condensed)
+        }
+        DiagCodedTypeVariant::ParamLengthInfo(_) => MaskUse::Absent,
+    }
+}
 
 fn is_outside(place: Place, store_len: usize) -> bool
     ensures { λ r. ⌜ r ≡ outside place «store_len» ⌝ }
@@ -35,8 +99,8 @@ fn part<'a>(store: &'a [u8], place: Place) -> &'a [u8]
 }
 
 // The part of the store at an optional place, and the empty part where there is none.
-pub fn placed_part<'a>(store: &'a [u8], place: OptionalPlace) -> &'a [u8]
-    ensures { λ r. ⌜ now r ≡ placed (now (store .entry)) place ⌝ }
+pub fn part_at<'a>(store: &'a [u8], place: OptionalPlace) -> &'a [u8]
+    ensures { λ r. ⌜ now r ≡ partAt (now (store .entry)) place ⌝ }
 {
     match place {
         OptionalPlace::At(there) => part(store, there),
@@ -44,25 +108,27 @@ pub fn placed_part<'a>(store: &'a [u8], place: OptionalPlace) -> &'a [u8]
     }
 }
 
-// What a field does with the mask at an optional place.
-pub fn mask_use(place: OptionalPlace, condensed: bool) -> MaskUse
-    ensures { λ r. ⌜ r ≡ useOf place condensed ⌝ }
+// The part of the store that a variant speaks of: a mask where its use is not absent.
+pub fn store_part<'a>(store: &'a [u8], type_: DiagCodedTypeVariant) -> &'a [u8]
+    ensures { λ r. ⌜ now r ≡ partAt (now (store .entry)) (storePlace «type_») ⌝ }
 {
-    match place {
-        OptionalPlace::At(_) => {
-            if condensed {
-                return MaskUse::Condensed;
-            }
-            MaskUse::Plain
-        }
-        OptionalPlace::Absent => MaskUse::Absent,
-    }
+    part_at(store, store_place(type_))
 }
 
-// 43, of a store and two other slices with so many bytes.
-pub fn validate_sizes(store_len: usize, first_len: usize, second_len: usize) -> Check
-    ensures { λ r. ⌜ numberOfCheck r ≡ sizesRefusal «store_len» «first_len» «second_len» ⌝ }
+// 43 of a record, a store and two other slices, and 44 of the last of them, with so many bytes used. Where a call lends fewer, or
+// none is used, the numbers are 0.
+pub fn validate_slices(
+    record_len: usize,
+    store_len: usize,
+    first_len: usize,
+    second_len: usize,
+    used: usize,
+) -> Check
+    ensures { λ r. ⌜ r ≡ slicesRefusal «record_len» «store_len» «first_len» «second_len» used ⌝ }
 {
+    if 65535 < record_len {
+        return Check::Refused(Refusal::SliceTooLong);
+    }
     if 32768 < store_len {
         return Check::Refused(Refusal::SliceTooLong);
     }
@@ -72,24 +138,15 @@ pub fn validate_sizes(store_len: usize, first_len: usize, second_len: usize) -> 
     if 65535 < second_len {
         return Check::Refused(Refusal::SliceTooLong);
     }
-    Check::Passed
-}
-
-// The part of the store that a variant speaks of.
-fn place_of(type_: DiagCodedTypeVariant) -> OptionalPlace
-    ensures { λ r. ⌜ r ≡ placeOf «type_» ⌝ }
-{
-    match type_ {
-        DiagCodedTypeVariant::LeadingLengthInfo(_) => OptionalPlace::Absent,
-        DiagCodedTypeVariant::MinMaxLength(_) => OptionalPlace::Absent,
-        DiagCodedTypeVariant::StandardLength(standard) => standard.bit_mask,
-        DiagCodedTypeVariant::ParamLengthInfo(name) => OptionalPlace::At(name),
+    if second_len < used {
+        return Check::Refused(Refusal::UsedPastSlice);
     }
+    Check::Passed
 }
 
 // 42, of the part of the store that a coded type speaks of.
 fn validate_place(place: OptionalPlace, store_len: usize) -> Check
-    ensures { λ r. ⌜ numberOfCheck r ≡ placeRefusal place «store_len» ⌝ }
+    ensures { λ r. ⌜ r ≡ placeRefusal place «store_len» ⌝ }
 {
     match place {
         OptionalPlace::At(there) => {
@@ -104,65 +161,11 @@ fn validate_place(place: OptionalPlace, store_len: usize) -> Check
 
 // 42, 12, 13, 10 and 11, however the coded type was made.
 pub fn validate_description(coded_type: DiagCodedType, store_len: usize) -> Check
-    ensures { λ r. ⌜ numberOfCheck r ≡ describedRefusal «coded_type» «store_len» ⌝ }
+    ensures { λ r. ⌜ r ≡ descriptionRefusal «coded_type» «store_len» ⌝ }
 {
     let type_ = coded_type.type_;
-    match validate_place(place_of(type_), store_len) {
+    match validate_place(store_place(type_), store_len) {
         Check::Refused(refusal) => Check::Refused(refusal),
         Check::Passed => coded_type.validate(),
-    }
-}
-
-// 43, 42, 12, 13, 10 and 11: what every call that takes a coded type refuses first. The call lends a store and two other
-// slices; where it lends one, the other counts 0 bytes.
-pub fn validate_call(
-    coded_type: DiagCodedType,
-    store_len: usize,
-    first_len: usize,
-    second_len: usize,
-) -> Check
-    ensures { λ r. ⌜ numberOfCheck r ≡ callRefusal «coded_type» «store_len» «first_len» «second_len» ⌝ }
-{
-    match validate_sizes(store_len, first_len, second_len) {
-        Check::Refused(refusal) => Check::Refused(refusal),
-        Check::Passed => validate_description(coded_type, store_len),
-    }
-}
-
-// The same with 44 after 43, of a call that writes to a payload of which so many bytes are used.
-pub fn validate_write_call(
-    coded_type: DiagCodedType,
-    store_len: usize,
-    input_len: usize,
-    payload_len: usize,
-    used: usize,
-) -> Check
-    ensures { λ r. ⌜ numberOfCheck r ≡ writeCallRefusal «coded_type» «store_len» «input_len» «payload_len» used ⌝ }
-{
-    match validate_sizes(store_len, input_len, payload_len) {
-        Check::Refused(refusal) => Check::Refused(refusal),
-        Check::Passed => {
-            if payload_len < used {
-                return Check::Refused(Refusal::UsedPastSlice);
-            }
-            validate_description(coded_type, store_len)
-        }
-    }
-}
-
-// The name of the parameter that gives the length, a part of the store, and the number beside it. The part is empty on a
-// refusal, and where there is no name: `length_key_place` tells that from an empty name.
-pub fn length_key_name<'a>(coded_type: DiagCodedType, store: &'a [u8], number: &mut u32) -> &'a [u8]
-    ensures { λ r. ⌜ named (now (number .exit)) (now r) ≡ keyName «coded_type» (now (store .entry)) ⌝ }
-{
-    match validate_call(coded_type, store.len(), 0, 0) {
-        Check::Refused(refusal) => {
-            *number = refusal.number();
-            &store[..0]
-        }
-        Check::Passed => {
-            *number = 0;
-            placed_part(store, coded_type.length_key_place())
-        }
     }
 }

@@ -1,7 +1,6 @@
--- `Compare` has the ways to take two numbers apart, `Rules` numbers that rules never give, `Refused` the laws of the table of refusals,
--- `Outcomes` what is made or refused with another number than 30, and `Examples` tables that are computed.
+-- `Compare` has the ways to take two numbers apart, `Cuts` the size of what is cut out, `Outcomes` the laws of outcomes, `Rows` those of the table of refusals, and `Examples` tables that are computed.
 pub mod Compare
-pub mod Rules
-pub mod Refused
+pub mod Cuts
 pub mod Outcomes
+pub mod Rows
 pub mod Examples

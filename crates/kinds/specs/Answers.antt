@@ -1,10 +1,8 @@
--- Document 01, 'Refusal numbers': what each refusal and each answer reports.
+-- Document 01, 'Refusal numbers': the number of each refusal, and what each answer reports.
 use Prim.Native.Nat.{ℕ}
-use mathlib.Core.Bool.{cond}
-use lib.Dec.{eqb}
+use mathlib.Core.List.{List, [], _∷_}
 use Rattle.kinds.specs.declared.refusals.Refusal.{Refusal}
-use Rattle.kinds.specs.declared.refusals.Refusal.the-variants.{NumericWithVariableLength, OddUnicodeLimits, ZeroMaximum, MaximumBelowMinimum, ByteTypeAtBitPosition, ZeroBitLength, IntegerTooLong, Float32Length, Float64Length, UnicodeLength, BitPositionAboveSeven, BitsPastCut, NotEnoughData, LengthFieldPastPayload, LengthFieldTooWide, CountTooLarge, ScanPastPayload, EmptyUntilEndOfPdu, MaskLongerThanLength, RuntimeLengthNeeded, EmptyLengthField, NotClearable, PayloadLacksRoom, OutputLacksRoom, MalformedRecord, SliceTooLong, UsedPastSlice, MalformedTable}
-use Rattle.kinds.specs.declared.refusals.Report.{Report}
+use Rattle.kinds.specs.declared.refusals.Refusal.the-variants.{NumericWithVariableLength, OddUnicodeLimits, ZeroMaximum, MaximumBelowMinimum, ByteTypeAtBitPosition, ZeroBitLength, IntegerTooLong, Float32Length, Float64Length, UnicodeLength, BitPositionAboveSeven, BitsPastCut, LengthFieldPastPayload, LengthFieldTooWide, CountTooLarge, ScanPastPayload, EmptyUntilEndOfPdu, MaskLongerThanLength, RuntimeLengthNeeded, EmptyLengthField, NotClearable, PayloadLacksRoom, OutputLacksRoom, MalformedRecord, SliceTooLong, UsedPastSlice, MalformedTable}
 use Rattle.kinds.specs.declared.refusals.Check.{Check}
 use Rattle.kinds.specs.declared.refusals.Check.the-variants as check
 use Rattle.kinds.specs.declared.refusals.Reading.{Reading}
@@ -12,68 +10,71 @@ use Rattle.kinds.specs.declared.refusals.Reading.the-variants as reading
 use Rattle.kinds.specs.declared.refusals.Writing.{Writing}
 use Rattle.kinds.specs.declared.refusals.Writing.the-variants as writing
 
--- a refusal with its number, and counts of 0
-abbrev pub refused : ℕ → Report
-refused n = record { number = n; «bit_count» = 0; «byte_count» = 0; expected = 0; actual = 0 }
-
--- 30, which alone says what was expected and what there is
-abbrev pub short : ℕ → ℕ → Report
-short e a = record { number = 30; «bit_count» = 0; «byte_count» = 0; expected = e; actual = a }
-
--- what a refusal with the number n reports, where 30 says these two
-abbrev pub reportAt : ℕ → ℕ → ℕ → Report
-reportAt n e a = cond (eqb n 30) (short e a) (refused n)
-
--- a successful reading: 0, and how many bits and bytes it gives
-abbrev pub read : ℕ → ℕ → Report
-read bits bytes = record { number = 0; «bit_count» = bits; «byte_count» = bytes; expected = 0; actual = 0 }
-
--- a successful encode or clear: 0, and counts of 0
-abbrev pub wrote : Report
-wrote = record { number = 0; «bit_count» = 0; «byte_count» = 0; expected = 0; actual = 0 }
-
--- the table of refusals
-abbrev pub reportOf : Refusal → Report
-reportOf NumericWithVariableLength = refused 10
-reportOf OddUnicodeLimits = refused 11
-reportOf ZeroMaximum = refused 12
-reportOf MaximumBelowMinimum = refused 13
-reportOf ByteTypeAtBitPosition = refused 20
-reportOf ZeroBitLength = refused 21
-reportOf IntegerTooLong = refused 22
-reportOf Float32Length = refused 23
-reportOf Float64Length = refused 24
-reportOf UnicodeLength = refused 25
-reportOf BitPositionAboveSeven = refused 26
-reportOf BitsPastCut = refused 27
-reportOf (NotEnoughData e a) = short e a
-reportOf LengthFieldPastPayload = refused 31
-reportOf LengthFieldTooWide = refused 32
-reportOf CountTooLarge = refused 33
-reportOf ScanPastPayload = refused 34
-reportOf EmptyUntilEndOfPdu = refused 35
-reportOf MaskLongerThanLength = refused 36
-reportOf RuntimeLengthNeeded = refused 37
-reportOf EmptyLengthField = refused 38
-reportOf NotClearable = refused 39
-reportOf PayloadLacksRoom = refused 40
-reportOf OutputLacksRoom = refused 41
-reportOf MalformedRecord = refused 42
-reportOf SliceTooLong = refused 43
-reportOf UsedPastSlice = refused 44
-reportOf MalformedTable = refused 45
-
+-- the table of refusals, but for 30
 abbrev pub numberOf : Refusal → ℕ
-numberOf r = reportOf r .number
+numberOf NumericWithVariableLength = 10
+numberOf OddUnicodeLimits = 11
+numberOf ZeroMaximum = 12
+numberOf MaximumBelowMinimum = 13
+numberOf ByteTypeAtBitPosition = 20
+numberOf ZeroBitLength = 21
+numberOf IntegerTooLong = 22
+numberOf Float32Length = 23
+numberOf Float64Length = 24
+numberOf UnicodeLength = 25
+numberOf BitPositionAboveSeven = 26
+numberOf BitsPastCut = 27
+numberOf LengthFieldPastPayload = 31
+numberOf LengthFieldTooWide = 32
+numberOf CountTooLarge = 33
+numberOf ScanPastPayload = 34
+numberOf EmptyUntilEndOfPdu = 35
+numberOf MaskLongerThanLength = 36
+numberOf RuntimeLengthNeeded = 37
+numberOf EmptyLengthField = 38
+numberOf NotClearable = 39
+numberOf PayloadLacksRoom = 40
+numberOf OutputLacksRoom = 41
+numberOf MalformedRecord = 42
+numberOf SliceTooLong = 43
+numberOf UsedPastSlice = 44
+numberOf MalformedTable = 45
 
-abbrev pub numberOfCheck : Check → ℕ
-numberOfCheck check.Passed = 0
-numberOfCheck (check.Refused r) = numberOf r
+-- A report is five numbers in a row: number, bit count, byte count, expected, actual. Here the number is alone: that of a refusal, or 0,
+-- with which encode and clear report their success
+abbrev pub numbered : ℕ → List ℕ
+numbered n = n ∷ 0 ∷ 0 ∷ 0 ∷ 0 ∷ []
 
-abbrev pub reportOfReading : Reading → Report
+-- the number of a report
+abbrev pub numberIn : List ℕ → ℕ
+numberIn [] = 0
+numberIn (n ∷ counts) = n
+
+abbrev pub refused : Refusal → List ℕ
+refused r = numbered (numberOf r)
+
+-- 30 alone says what was expected and what there is
+abbrev pub short : ℕ → ℕ → List ℕ
+short e a = 30 ∷ 0 ∷ 0 ∷ e ∷ a ∷ []
+
+-- a successful reading: how many bits and bytes it gives
+abbrev pub read : ℕ → ℕ → List ℕ
+read bits bytes = 0 ∷ bits ∷ bytes ∷ 0 ∷ 0 ∷ []
+
+-- a successful encode or clear
+abbrev pub wrote : List ℕ
+wrote = numbered 0
+
+abbrev pub reportOfCheck : Check → List ℕ
+reportOfCheck check.Passed = wrote
+reportOfCheck (check.Refused r) = refused r
+
+abbrev pub reportOfReading : Reading → List ℕ
 reportOfReading (reading.Read bits bytes) = read (bits .0) (bytes .0)
-reportOfReading (reading.Refused r) = reportOf r
+reportOfReading (reading.NotEnoughData e a) = short e a
+reportOfReading (reading.Refused r) = refused r
 
-abbrev pub reportOfWriting : Writing → Report
+abbrev pub reportOfWriting : Writing → List ℕ
 reportOfWriting writing.Written = wrote
-reportOfWriting (writing.Refused r) = reportOf r
+reportOfWriting (writing.NotEnoughData e a) = short e a
+reportOfWriting (writing.Refused r) = refused r

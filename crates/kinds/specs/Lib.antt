@@ -1,7 +1,8 @@
--- The types, positions in a slice, the table of refusals, rules in an order and what is made or refused, and the checks 20 to 25,
--- in document 01's words.
+-- The types, positions in a slice, the table of refusals, the words for outcomes and answers, and the checks 20 to 25, in document 01's
+-- words; and in `CodePlaces` how the code tells a place.
 pub mod Types
 pub mod Slices
 pub mod Answers
-pub mod Rules
+pub mod Outcomes
 pub mod Refusals
+pub mod CodePlaces

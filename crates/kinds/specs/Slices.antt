@@ -4,8 +4,8 @@ use mathlib.Core.List.{List}
 use lib.ListN.{take, drop}
 
 -- sums saturate at 2^64-1
-abbrev pub sum : ℕ → ℕ → ℕ
-sum a b = min (a + b) 0xFFFFFFFFFFFFFFFF
+abbrev pub saturatingSum : ℕ → ℕ → ℕ
+saturatingSum a b = min (a + b) 0xFFFFFFFFFFFFFFFF
 
 -- n bytes from at on
 abbrev pub cut : ℕ → ℕ → List ℕ → List ℕ

@@ -1,10 +1,14 @@
 // The refusals of document 01 as an enum, and the answers that carry them.
 ghost use mathlib.Core.Path.{_≡_};
-ghost use Rattle.kinds.specs.Answers.{numberOf, reportOf, reportOfReading, reportOfWriting, refused};
+ghost use mathlib.Core.List.{_∷_};
+ghost use Rattle.kinds.specs.Answers.{numberOf, reportOfReading, reportOfWriting};
 use super::types::BitLength;
 use super::types::ByteCount;
 
-// Each row of document 01's table of refusals, in its order.
+// The number of what says more than its number, which is a case of its own of the answers.
+pub const NOT_ENOUGH_DATA: u32 = 30;
+
+// The other rows of document 01's table of refusals, in its order.
 pub enum Refusal {
     NumericWithVariableLength,
     OddUnicodeLimits,
@@ -18,7 +22,6 @@ pub enum Refusal {
     UnicodeLength,
     BitPositionAboveSeven,
     BitsPastCut,
-    NotEnoughData { expected: usize, actual: usize },
     LengthFieldPastPayload,
     LengthFieldTooWide,
     CountTooLarge,
@@ -36,15 +39,6 @@ pub enum Refusal {
     MalformedTable,
 }
 
-// What every call reports: the number, 0 for success, both counts, and what 30 says besides.
-pub struct Report {
-    pub number: u32,
-    pub bit_count: usize,
-    pub byte_count: usize,
-    pub expected: usize,
-    pub actual: usize,
-}
-
 // The answer of a check.
 pub enum Check {
     Passed,
@@ -57,25 +51,31 @@ pub enum Reading {
         bit_count: BitLength,
         byte_count: ByteCount,
     },
+    NotEnoughData {
+        expected: usize,
+        actual: usize,
+    },
     Refused(Refusal),
 }
 
 // The answer of a writing.
 pub enum Writing {
     Written,
+    NotEnoughData { expected: usize, actual: usize },
     Refused(Refusal),
 }
 
-fn number_alone(number: u32) -> Report
-    ensures { λ r. ⌜ r ≡ refused number ⌝ }
-{
-    Report {
-        number,
-        bit_count: 0,
-        byte_count: 0,
-        expected: 0,
-        actual: 0,
-    }
+// So many bits from a byte position on, or why there are none.
+pub enum PosInfo {
+    Found {
+        bit_len: BitLength,
+        start_pos: usize,
+    },
+    NotEnoughData {
+        expected: usize,
+        actual: usize,
+    },
+    Refused(Refusal),
 }
 
 impl Refusal {
@@ -95,10 +95,6 @@ impl Refusal {
             Refusal::UnicodeLength => 25,
             Refusal::BitPositionAboveSeven => 26,
             Refusal::BitsPastCut => 27,
-            Refusal::NotEnoughData {
-                expected: _,
-                actual: _,
-            } => 30,
             Refusal::LengthFieldPastPayload => 31,
             Refusal::LengthFieldTooWide => 32,
             Refusal::CountTooLarge => 33,
@@ -116,53 +112,51 @@ impl Refusal {
             Refusal::MalformedTable => 45,
         }
     }
-
-    // What a refused call reports.
-    pub fn report(self) -> Report
-        ensures { λ r. ⌜ r ≡ reportOf self ⌝ }
-    {
-        match self {
-            Refusal::NotEnoughData { expected, actual } => Report {
-                number: 30,
-                bit_count: 0,
-                byte_count: 0,
-                expected,
-                actual,
-            },
-            _ => number_alone(self.number()),
-        }
-    }
 }
 
 impl Reading {
-    // What a reading reports.
-    pub fn report(self) -> Report
-        ensures { λ r. ⌜ r ≡ reportOfReading self ⌝ }
+    // Answers the number, and leaves the rest of the report: bit count, byte count, expected and actual.
+    pub fn report(self, report: &mut [usize; 4]) -> u32
+        ensures { λ r. ⌜ r ∷ now (report .exit) ≡ reportOfReading self ⌝ }
     {
         match self {
             Reading::Read {
                 bit_count,
                 byte_count,
-            } => Report {
-                number: 0,
-                bit_count: bit_count.bits(),
-                byte_count: byte_count.bytes(),
-                expected: 0,
-                actual: 0,
-            },
-            Reading::Refused(refusal) => refusal.report(),
+            } => {
+                *report = [bit_count.bits(), byte_count.bytes(), 0, 0];
+                0
+            }
+            Reading::NotEnoughData { expected, actual } => {
+                *report = [0, 0, expected, actual];
+                NOT_ENOUGH_DATA
+            }
+            Reading::Refused(refusal) => {
+                *report = [0, 0, 0, 0];
+                refusal.number()
+            }
         }
     }
 }
 
 impl Writing {
-    // What an encode or a clear reports.
-    pub fn report(self) -> Report
-        ensures { λ r. ⌜ r ≡ reportOfWriting self ⌝ }
+    // The same of a writing.
+    pub fn report(self, report: &mut [usize; 4]) -> u32
+        ensures { λ r. ⌜ r ∷ now (report .exit) ≡ reportOfWriting self ⌝ }
     {
         match self {
-            Writing::Written => number_alone(0),
-            Writing::Refused(refusal) => refusal.report(),
+            Writing::Written => {
+                *report = [0, 0, 0, 0];
+                0
+            }
+            Writing::NotEnoughData { expected, actual } => {
+                *report = [0, 0, expected, actual];
+                NOT_ENOUGH_DATA
+            }
+            Writing::Refused(refusal) => {
+                *report = [0, 0, 0, 0];
+                refusal.number()
+            }
         }
     }
 }

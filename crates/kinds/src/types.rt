@@ -1,11 +1,11 @@
 // Data types, bit lengths and byte counts, byte order, and the checks of bit position and bit length.
 ghost use mathlib.Core.Path.{_≡_};
-ghost use mathlib.Core.Bool.{cond};
+ghost use mathlib.Core.List.{[], _∷_};
 ghost use Prim.Native.Nat.{_*_, _^_, _<_, min};
 ghost use lib.Dec.{ltb};
 ghost use Rattle.kinds.specs.Types.{isByteType, isUnicode, byteOrder, bytesFor};
-ghost use Rattle.kinds.specs.Slices.{sum};
-ghost use Rattle.kinds.specs.Answers.{numberOfCheck};
+ghost use Rattle.kinds.specs.Outcomes.{rule, firstOf};
+ghost use Rattle.kinds.specs.Slices.{saturatingSum};
 ghost use Rattle.kinds.specs.Refusals.{bitPositionRefusal, bitLengthRefusal};
 use super::refusals::Check;
 use super::refusals::Refusal;
@@ -130,7 +130,7 @@ impl DataType {
     }
 
     pub fn validate_bit_pos(self, bit_pos: usize) -> Check
-        ensures { λ r. ⌜ numberOfCheck r ≡ bitPositionRefusal self «bit_pos» ⌝ }
+        ensures { λ r. ⌜ r ≡ bitPositionRefusal self «bit_pos» ⌝ }
     {
         if bit_pos == 0 {
             return Check::Passed;
@@ -142,7 +142,7 @@ impl DataType {
     }
 
     pub fn validate_bit_len(self, bit_len: BitLength) -> Check
-        ensures { λ r. ⌜ numberOfCheck r ≡ bitLengthRefusal self («bit_len» .0) ⌝ }
+        ensures { λ r. ⌜ r ≡ bitLengthRefusal self («bit_len» .0) ⌝ }
     {
         let bits = bit_len.0;
         if bits == 0 {
@@ -177,7 +177,7 @@ impl DataType {
 }
 
 fn at_most_64(bits: u32) -> Check
-    ensures { λ r. ⌜ numberOfCheck r ≡ cond (ltb 64 bits) 22 0 ⌝ }
+    ensures { λ r. ⌜ r ≡ firstOf (rule (ltb 64 bits) Refusal.IntegerTooLong ∷ []) ⌝ }
 {
     if 64 < bits {
         return Check::Refused(Refusal::IntegerTooLong);
@@ -187,7 +187,7 @@ fn at_most_64(bits: u32) -> Check
 
 // The sum of two positions, or the largest number where that is larger.
 pub fn saturating_add(a: usize, b: usize) -> usize
-    ensures { λ r. ⌜ r ≡ sum a b ⌝ }
+    ensures { λ r. ⌜ r ≡ saturatingSum a b ⌝ }
 {
     let room = 0xFFFF_FFFF_FFFF_FFFF - a;
     if room < b {

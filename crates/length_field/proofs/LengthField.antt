@@ -1,6 +1,7 @@
 -- A length field as a number, and what is found behind it.
 use mathlib.Core.Path.{_≡_, refl, sym, ap, ap₂, _∙_}
 use mathlib.Core.Logic.{⊎-elim}
+use mathlib.Core.Bool.{true, true≢false}
 use mathlib.Core.List.{List}
 use Prim.Native.Nat.{ℕ, zero, suc, _+_, _-_, _*_, _%_, _^_, _≤_, _<_}
 use native.Mathlib.Omega.{arith}
@@ -9,27 +10,26 @@ use native.Mathlib.Nat.{mod-eq-of-lt}
 use lib.ListN.{length, getD, length-take, length-drop}
 use lib.Pow.{pow-add, pow-mono, shl-exact}
 use borrow.Author.Tests.{lt-ltb, le-ltb, eq-eqb, ne-eqb}
-use Rattle.kinds.specs.declared.refusals.Refusal.{Refusal}
+use Rattle.kinds.specs.declared.refusals.Refusal.the-variants.{ZeroBitLength, LengthFieldPastPayload, LengthFieldTooWide}
+use Rattle.kinds.specs.declared.refusals.Check.the-variants.{Passed}
 use Rattle.kinds.specs.declared.types.DataType.{DataType}
 use Rattle.kinds.specs.declared.types.ByteCount.{ByteCount}
 use Rattle.kinds.specs.declared.types.ByteOrder.{ByteOrder}
 use Rattle.kinds.specs.Types.{bytesFor}
-use Rattle.kinds.specs.Slices.{sum, cut}
-use Rattle.kinds.specs.Answers.{refused, short, numberOf, reportOf}
+use Rattle.kinds.specs.Slices.{saturatingSum, cut}
+use Rattle.kinds.specs.Outcomes.{gives, lacks, refuses}
+use Rattle.kinds.specs.CodePlaces.{span}
 use Rattle.kinds.specs.Refusals.{bitLengthRefusal}
 use Rattle.kinds.proofs.Compare.{below}
-use Rattle.kinds.proofs.Rules.{length-not-30}
-use Rattle.kinds.proofs.Refused.{handed-on}
+use Rattle.kinds.proofs.Outcomes.{rule-passed}
 use Rattle.order.specs.Order.{ordered}
 use Rattle.order.proofs.Index.{length-ordered}
 use Rattle.bits.specs.Bits.{bitAt, number, packed}
 use Rattle.bits.proofs.Numbers.{number-add, number-lowest}
 use Rattle.bits.proofs.Bytes.{Bytes, bitAt-lt, repack}
 use Rattle.bits.proofs.Runs.{bytes-cut, bytes-ordered}
-use Rattle.positions.specs.Located.{Located, found, notFound}
-use Rattle.positions.proofs.NotFound.{not-found}
 use Rattle.length_field.specs.declared.leading.LengthInfo.the-variants as info
-use Rattle.length_field.specs.Leading.{bigEndian, lengthInfo, lengthField, lengthFieldRefusal, leadingRefusal, leadingCount, leadingEnd, leadingPlace}
+use Rattle.length_field.specs.Leading.{bigEndian, lengthInfo, lengthField, leadingCount, leadingEnd, dataPlace}
 
 -- ---- bits and bytes of a number
 
@@ -97,18 +97,16 @@ module _ (o : ByteOrder) (xs : List ℕ) where
 
 -- ---- the length field of a payload
 
--- what is found behind one whose length has passed its check
-abbrev behind : ByteOrder → ℕ → List ℕ → ℕ → Located
-behind o bits payload at = leadingPlace o bits payload at (lengthFieldRefusal o bits payload at)
+-- ---- what is found behind it
 
-pub past-payload : (o : ByteOrder) (bits : ℕ) (payload : List ℕ) (at : ℕ) → length payload < sum at (bytesFor bits) → notFound (refused 31) ≡ behind o bits payload at
-past-payload o bits payload at h = rw (lt-ltb (length payload) (sum at (bytesFor bits)) h)
+pub past-payload : (o : ByteOrder) (bits : ℕ) (payload : List ℕ) (at : ℕ) → length payload < saturatingSum at (bytesFor bits) → refuses LengthFieldPastPayload ≡ dataPlace o bits payload at
+past-payload o bits payload at h = rw (lt-ltb (length payload) (saturatingSum at (bytesFor bits)) h)
 
 -- a length field ends in the payload, whose length is far below what sums saturate at
 pub record Inside (bits : ℕ) (payload : List ℕ) (at start : ℕ) : Type 0 where
   pub some : 0 < bits
   pub few : length payload ≤ 65535
-  pub ends : start ≡ sum at (bytesFor bits)
+  pub ends : start ≡ saturatingSum at (bytesFor bits)
   pub inside : start ≤ length payload
 
 module _ (o : ByteOrder) {bits : ℕ} {payload : List ℕ} {at start : ℕ} (f : Inside bits payload at start) where
@@ -140,9 +138,9 @@ module _ (o : ByteOrder) {bits : ℕ} {payload : List ℕ} {at start : ℕ} (f :
       let len = length-run in
       read-some o run (length run) _ refl (omega arith) (omega arith) refl
 
-  pub too-wide : lengthInfo field ≡ info.TooWide → notFound (refused 32) ≡ behind o bits payload at
+  pub too-wide : lengthInfo field ≡ info.TooWide → refuses LengthFieldTooWide ≡ dataPlace o bits payload at
   too-wide e =
-      ⊎-elim (λ (h : 64 < bits). rw (le-ltb (length payload) (sum at (bytesFor bits)) (omega arith), lt-ltb 64 bits h))
+      ⊎-elim (λ (h : 64 < bits). rw (le-ltb (length payload) (saturatingSum at (bytesFor bits)) (omega arith), lt-ltb 64 bits h))
       (λ (h : bits ≤ 64).
       let r = is-read h in
       let z : _≡_ {A = ℕ} 0 1 = cc in
@@ -161,25 +159,20 @@ module _ (o : ByteOrder) {bits : ℕ} {payload : List ℕ} {at start : ℕ} (f :
       (g, el ∙ ap (λ (k : ℕ). k % 2 ^ bits) is ∙ count-is h))
       (below 64 bits)
 
-  module _ {len end : ℕ} (count : (bits ≤ 64) × (len ≡ leadingCount o bits payload at)) (ends : end ≡ sum start len) where
-    pub not-enough : length payload < end → notFound (short end (length payload)) ≡ behind o bits payload at
+  module _ {len end : ℕ} (count : (bits ≤ 64) × (len ≡ leadingCount o bits payload at)) (ends : end ≡ saturatingSum start len) where
+    pub not-enough : length payload < end → lacks end (length payload) ≡ dataPlace o bits payload at
     not-enough h =
         let e : end ≡ leadingEnd o bits payload at = omega arith in
-        rw (le-ltb (length payload) (sum at (bytesFor bits)) (omega arith), le-ltb 64 bits (count .0), lt-ltb (length payload) (leadingEnd o bits payload at) (omega arith))
-        (ap (λ (n : ℕ). notFound (short n (length payload))) e)
+        rw (le-ltb (length payload) (saturatingSum at (bytesFor bits)) (omega arith), le-ltb 64 bits (count .0), lt-ltb (length payload) (leadingEnd o bits payload at) (omega arith))
+        (ap (λ (n : ℕ). lacks n (length payload)) e)
 
-    pub enough : {n : ℕ} → end ≤ length payload → n ≡ 8 * len → found start n ≡ behind o bits payload at
+    pub enough : {n : ℕ} → end ≤ length payload → n ≡ 8 * len → gives (span start n) ≡ dataPlace o bits payload at
     enough h e =
-        rw (le-ltb (length payload) (sum at (bytesFor bits)) (omega arith), le-ltb 64 bits (count .0), le-ltb (length payload) (leadingEnd o bits payload at) (omega arith))
-        (ap₂ found (f .ends) (e ∙ ap (λ (k : ℕ). 8 * k) (count .1)))
+        rw (le-ltb (length payload) (saturatingSum at (bytesFor bits)) (omega arith), le-ltb 64 bits (count .0), le-ltb (length payload) (leadingEnd o bits payload at) (omega arith))
+        (ap₂ (λ (a b : ℕ). gives (span a b)) (f .ends) (e ∙ ap (λ (k : ℕ). 8 * k) (count .1)))
 
 -- ---- its length is checked first
 
-pub some-bits : (t : DataType) (bits : ℕ) → bitLengthRefusal t bits ≡ 0 → 0 < bits
-some-bits t zero e = absurd (omega arith)
+pub some-bits : (t : DataType) (bits : ℕ) → bitLengthRefusal t bits ≡ Passed → 0 < bits
+some-bits t zero e = absurd (true≢false (rule-passed true ZeroBitLength Passed e .0))
 some-bits t (suc n) e = omega arith
-
-pub no-length : (o : ByteOrder) (bits : ℕ) (payload : List ℕ) (at : ℕ) (t : DataType) (r : Refusal) → numberOf r ≡ bitLengthRefusal t bits
-    → notFound (reportOf r) ≡ leadingPlace o bits payload at (leadingRefusal o bits payload at t)
-no-length o bits payload at t r e =
-    not-found r _ _ _ _ _ e (length-not-30 t bits) ∙ ap (leadingPlace o bits payload at) (sym e ∙ handed-on r _ e)

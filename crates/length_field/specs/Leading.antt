@@ -7,12 +7,14 @@ use lib.Dec.{eqb, ltb}
 use Rattle.kinds.specs.declared.types.DataType.{DataType}
 use Rattle.kinds.specs.declared.types.ByteOrder.{ByteOrder}
 use Rattle.kinds.specs.Types.{bytesFor}
-use Rattle.kinds.specs.Slices.{sum, cut}
-use Rattle.kinds.specs.Rules.{rule, firstOf, orElse}
+use Rattle.kinds.specs.Slices.{saturatingSum, cut}
+use Rattle.kinds.specs.declared.refusals.Refusal.the-variants.{LengthFieldPastPayload, LengthFieldTooWide}
+use Rattle.kinds.specs.declared.refusals.Check.{Check}
+use Rattle.kinds.specs.Outcomes.{rule, firstOf, Outcome, gives, after, unlessShort}
+use Rattle.kinds.specs.CodePlaces.{Span, span}
 use Rattle.kinds.specs.Refusals.{bitLengthRefusal}
 use Rattle.order.specs.Order.{ordered}
 use Rattle.bits.specs.Bits.{bitAt, number}
-use Rattle.positions.specs.Located.{Located, located}
 use Rattle.length_field.specs.declared.leading.LengthInfo.{LengthInfo}
 use Rattle.length_field.specs.declared.leading.LengthInfo.the-variants.{Bytes, TooWide}
 
@@ -36,23 +38,26 @@ module _ (o : ByteOrder) (bits : ℕ) (payload : List ℕ) (at : ℕ) where
 
   -- which follow at the next byte edge
   abbrev pub leadingStart : ℕ
-  leadingStart = sum at (bytesFor bits)
+  leadingStart = saturatingSum at (bytesFor bits)
 
   abbrev pub leadingEnd : ℕ
-  leadingEnd = sum leadingStart leadingCount
+  leadingEnd = saturatingSum leadingStart leadingCount
 
-  -- 31, 32, 30
-  abbrev pub lengthFieldRefusal : ℕ
+  -- 31, 32
+  abbrev pub lengthFieldRefusal : Check
   lengthFieldRefusal =
       firstOf
-      (rule (ltb (length payload) leadingStart) 31
-      ∷ rule (ltb 64 bits) 32
-      ∷ rule (ltb (length payload) leadingEnd) 30
+      (rule (ltb (length payload) leadingStart) LengthFieldPastPayload
+      ∷ rule (ltb 64 bits) LengthFieldTooWide
       ∷ [])
 
-  -- 21, 25, 31, 32, 30
-  abbrev pub leadingRefusal : DataType → ℕ
-  leadingRefusal t = orElse (bitLengthRefusal t bits) lengthFieldRefusal
+  -- 31, 32, 30, and where the data bytes are
+  abbrev pub dataPlace : Outcome Span
+  dataPlace =
+      after lengthFieldRefusal
+      (unlessShort (ltb (length payload) leadingEnd) leadingEnd (length payload)
+      (gives (span leadingStart (8 * leadingCount))))
 
-  abbrev pub leadingPlace : ℕ → Located
-  leadingPlace n = located n leadingEnd (length payload) leadingStart (8 * leadingCount)
+  -- 21, 25 first
+  abbrev pub leadingPlace : DataType → Outcome Span
+  leadingPlace t = after (bitLengthRefusal t bits) dataPlace

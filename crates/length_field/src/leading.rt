@@ -3,15 +3,15 @@ ghost use mathlib.Core.Path.{_≡_};
 ghost use Prim.Native.Nat.{_+_, _*_, _≤_, _<_, _%_, _^_};
 ghost use lib.ListN.{length, getD};
 ghost use Rattle.order.specs.Order.{ordered};
-ghost use Rattle.positions.specs.Located.{locatedOf};
-ghost use Rattle.length_field.specs.Leading.{bigEndian, lengthInfo, lengthFieldRefusal, leadingRefusal, leadingPlace};
+ghost use Rattle.kinds.specs.CodePlaces.{outcomeOfSearch};
+ghost use Rattle.length_field.specs.Leading.{bigEndian, lengthInfo, dataPlace, leadingPlace};
 use kinds::BitLength;
 use kinds::ByteCount;
 use kinds::ByteOrder;
 use kinds::Check;
 use kinds::DataType;
+use kinds::PosInfo;
 use kinds::Refusal;
-use positions::PosInfo;
 
 // The number in a length field.
 enum LengthInfo {
@@ -93,7 +93,7 @@ fn behind_length_field(
 ) -> PosInfo
     requires { ⌜ length (now «uds_payload») ≤ 65535 ⌝ }
     requires { ⌜ 0 < bits .0 ⌝ }
-    ensures { λ r. ⌜ locatedOf r ≡ leadingPlace «byte_order» (bits .0) (now («uds_payload» .entry)) «byte_pos» (lengthFieldRefusal «byte_order» (bits .0) (now («uds_payload» .entry)) «byte_pos») ⌝ }
+    ensures { λ r. ⌜ outcomeOfSearch r ≡ dataPlace «byte_order» (bits .0) (now («uds_payload» .entry)) «byte_pos» ⌝ }
 {
     let start_pos = kinds::saturating_add(byte_pos, bits.byte_count().bytes());
     if uds_payload.len() < start_pos {
@@ -105,10 +105,10 @@ fn behind_length_field(
             let len = lowest_bits(number.bytes(), bits);
             let end_pos = kinds::saturating_add(start_pos, len);
             if uds_payload.len() < end_pos {
-                return PosInfo::Refused(Refusal::NotEnoughData {
+                return PosInfo::NotEnoughData {
                     expected: end_pos,
                     actual: uds_payload.len(),
-                });
+                };
             }
             PosInfo::Found {
                 bit_len: ByteCount(len).bit_length(),
@@ -127,7 +127,7 @@ pub fn pos_info_leading_len(
     bits: BitLength,
 ) -> PosInfo
     requires { ⌜ length (now «uds_payload») ≤ 65535 ⌝ }
-    ensures { λ r. ⌜ locatedOf r ≡ leadingPlace «byte_order» (bits .0) (now («uds_payload» .entry)) «byte_pos» (leadingRefusal «byte_order» (bits .0) (now («uds_payload» .entry)) «byte_pos» «base_datatype») ⌝ }
+    ensures { λ r. ⌜ outcomeOfSearch r ≡ leadingPlace «byte_order» (bits .0) (now («uds_payload» .entry)) «byte_pos» «base_datatype» ⌝ }
 {
     match base_datatype.validate_bit_len(bits) {
         Check::Refused(refusal) => PosInfo::Refused(refusal),

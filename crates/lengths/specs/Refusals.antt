@@ -5,7 +5,9 @@ use mathlib.Core.List.{[], _∷_}
 use lib.ListN.{length}
 use lib.Dec.{eqb, ltb, leb}
 use Rattle.kinds.specs.declared.types.DataType.{DataType}
-use Rattle.kinds.specs.Rules.{rule, firstOf, orElse}
+use Rattle.kinds.specs.declared.refusals.Refusal.the-variants.{LengthFieldTooWide, CountTooLarge, EmptyUntilEndOfPdu, MaskLongerThanLength, EmptyLengthField}
+use Rattle.kinds.specs.declared.refusals.Check.{Check}
+use Rattle.kinds.specs.Outcomes.{rule, firstOf, orElse}
 use Rattle.kinds.specs.Refusals.{bitLengthRefusal}
 use Rattle.coded.specs.declared.variants.Termination.{Termination}
 use Rattle.coded.specs.declared.variants.Termination.the-variants.{EndOfPdu, Zero, HexFF}
@@ -18,16 +20,16 @@ condensedBits (plainMask mask) = 0
 condensedBits (condensedMask mask) = 8 * length mask
 
 -- Standard: 21 to 25, 36
-abbrev pub standardRefusal : DataType → ℕ → Mask → ℕ
-standardRefusal t len mask = orElse (bitLengthRefusal t len) (firstOf (rule (ltb len (condensedBits mask)) 36 ∷ []))
+abbrev pub standardRefusal : DataType → ℕ → Mask → Check
+standardRefusal t len mask = orElse (bitLengthRefusal t len) (firstOf (rule (ltb len (condensedBits mask)) MaskLongerThanLength ∷ []))
 
 -- Leading, with n bytes of input: 33, 32, 38
-abbrev pub countRefusal : ℕ → ℕ → ℕ
+abbrev pub countRefusal : ℕ → ℕ → Check
 countRefusal bits n =
     firstOf
-    (rule (ltb bits 64 && leb (2 ^ bits) n) 33
-    ∷ rule (ltb 64 bits) 32
-    ∷ rule (eqb bits 0 && eqb n 0) 38
+    (rule (ltb bits 64 && leb (2 ^ bits) n) CountTooLarge
+    ∷ rule (ltb 64 bits) LengthFieldTooWide
+    ∷ rule (eqb bits 0 && eqb n 0) EmptyLengthField
     ∷ [])
 
 abbrev pub untilEndOfPdu : Termination → Bool
@@ -36,5 +38,5 @@ untilEndOfPdu Zero = false
 untilEndOfPdu HexFF = false
 
 -- MinMax, with n bytes of input: 35
-abbrev pub emptyRefusal : Termination → ℕ → ℕ
-emptyRefusal t n = firstOf (rule (untilEndOfPdu t && eqb n 0) 35 ∷ [])
+abbrev pub emptyRefusal : Termination → ℕ → Check
+emptyRefusal t n = firstOf (rule (untilEndOfPdu t && eqb n 0) EmptyUntilEndOfPdu ∷ [])

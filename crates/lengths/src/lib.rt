@@ -1,12 +1,12 @@
 // What encode and clear refuse for a variant's sake, its lengths and its mask's, and the mask that counts in them.
 ghost use mathlib.Core.Path.{_≡_};
-ghost use mathlib.Core.Bool.{cond};
+ghost use mathlib.Core.List.{[], _∷_};
 ghost use Prim.Native.Nat.{_*_, _≤_};
 ghost use lib.ListN.{length};
 ghost use lib.Dec.{ltb};
-ghost use Rattle.kinds.specs.Answers.{numberOfCheck};
+ghost use Rattle.kinds.specs.Outcomes.{rule, firstOf};
 ghost use Rattle.masks.specs.Mask.{maskOf};
-ghost use Rattle.pack.specs.Source.{counted};
+ghost use Rattle.pack.specs.Source.{effectiveMask};
 ghost use Rattle.lengths.specs.Refusals.{standardRefusal, countRefusal};
 use kinds::BitLength;
 use kinds::ByteCount;
@@ -18,7 +18,7 @@ use masks::MaskUse;
 // 36, of a condensed mask.
 fn validate_condensed(bit_len: BitLength, mask_len: ByteCount) -> Check
     requires { ⌜ «mask_len» .0 ≤ 65535 ⌝ }
-    ensures { λ r. ⌜ numberOfCheck r ≡ cond (ltb («bit_len» .0) (8 * «mask_len» .0)) 36 0 ⌝ }
+    ensures { λ r. ⌜ r ≡ firstOf (rule (ltb («bit_len» .0) (8 * «mask_len» .0)) Refusal.MaskLongerThanLength ∷ []) ⌝ }
 {
     if bit_len.bits() < mask_len.bit_length().bits() {
         return Check::Refused(Refusal::MaskLongerThanLength);
@@ -34,7 +34,7 @@ pub fn validate_standard(
     mask: &[u8],
 ) -> Check
     requires { ⌜ length (now mask) ≤ 65535 ⌝ }
-    ensures { λ r. ⌜ numberOfCheck r ≡ standardRefusal «base_datatype» («bit_len» .0) (maskOf «mask_use» (now (mask .entry))) ⌝ }
+    ensures { λ r. ⌜ r ≡ standardRefusal «base_datatype» («bit_len» .0) (maskOf «mask_use» (now (mask .entry))) ⌝ }
 {
     match base_datatype.validate_bit_len(bit_len) {
         Check::Refused(refusal) => Check::Refused(refusal),
@@ -48,7 +48,7 @@ pub fn validate_standard(
 
 // 33, 32 and 38. No shift reaches 64: a field of 64 bits holds every byte count.
 pub fn validate_leading_length(bit_len: BitLength, data_len: usize) -> Check
-    ensures { λ r. ⌜ numberOfCheck r ≡ countRefusal («bit_len» .0) «data_len» ⌝ }
+    ensures { λ r. ⌜ r ≡ countRefusal («bit_len» .0) «data_len» ⌝ }
 {
     let bits = bit_len.bits();
     if 64 < bits {
@@ -67,8 +67,8 @@ pub fn validate_leading_length(bit_len: BitLength, data_len: usize) -> Check
 }
 
 // An empty mask counts as none.
-pub fn counted_use(mask_use: MaskUse, mask: &[u8]) -> MaskUse
-    ensures { λ r. ⌜ maskOf r (now (mask .entry)) ≡ counted (maskOf «mask_use» (now (mask .entry))) ⌝ }
+pub fn effective_use(mask_use: MaskUse, mask: &[u8]) -> MaskUse
+    ensures { λ r. ⌜ maskOf r (now (mask .entry)) ≡ effectiveMask (maskOf «mask_use» (now (mask .entry))) ⌝ }
 {
     if mask.len() == 0 {
         return MaskUse::Absent;

@@ -13,7 +13,7 @@ use Rattle.bits.proofs.Moves.{bits-cond}
 use Rattle.payload.specs.Writing.{cutBytes}
 use Rattle.cutout.specs.CutOut.{ownedBit, cleared}
 use Rattle.ownership.specs.Ownership.{Cut, ownedAt, owns}
-use Rattle.ownership.specs.Effects.{clearedIn, afterClear}
+use Rattle.ownership.proofs.Effects.{clearedIn, afterClear}
 use Rattle.ownership.proofs.Places.{Pointwise, pointwise-packed, length-inCutOut, bytes-inCutOut}
 use Rattle.ownership.proofs.Laid.{Inside, holds, standsAt, bitAt-inCut, ownedBit-lt, bitAt-footprint}
 

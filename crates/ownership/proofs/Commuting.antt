@@ -9,7 +9,7 @@ use Rattle.bits.specs.Bits.{bitAt}
 use Rattle.bits.proofs.Bytes.{Bytes, ext-bits}
 use Rattle.masks.specs.Mask.{Mask}
 use Rattle.ownership.specs.Ownership.{Cut, owns}
-use Rattle.ownership.specs.Effects.{writtenIn, imprint, left}
+use Rattle.ownership.proofs.Effects.{writtenIn, imprint, left}
 use Rattle.ownership.proofs.Laid.{Inside}
 use Rattle.ownership.proofs.Writes.{Writable, imprint-none, length-writtenIn, bytes-writtenIn, write-law}
 

@@ -15,7 +15,7 @@ use Rattle.masks.proofs.Masked.{maskBit-lt}
 use Rattle.cutout.specs.CutOut.{ownedBit}
 use Rattle.payload.specs.Writing.{cutBytes}
 use Rattle.ownership.specs.Ownership.{Cut, inCut, laid, ownedAt, footprint}
-use Rattle.ownership.specs.Effects.{sourceAt, imprint}
+use Rattle.ownership.proofs.Effects.{sourceAt, imprint}
 use Rattle.ownership.proofs.Places.{Pointwise, pointwise-packed, inRun, placeInRun, bitAt-inCutOut}
 
 -- the cut-out ends inside n bytes

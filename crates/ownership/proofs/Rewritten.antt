@@ -16,7 +16,7 @@ use Rattle.bits.proofs.Moves.{first-in, raised-in, within-in}
 use Rattle.cutout.specs.CutOut.{ownedBit, cleared, put}
 use Rattle.payload.specs.Writing.{spliced, inCutOut, cutBytes}
 use Rattle.ownership.specs.Ownership.{Cut, ownedAt}
-use Rattle.ownership.specs.Effects.{sourceFor, writtenIn, clearedIn, sourceAt}
+use Rattle.ownership.proofs.Effects.{sourceFor, writtenIn, clearedIn, sourceAt}
 use Rattle.ownership.proofs.Laid.{Inside}
 use Rattle.ownership.proofs.Writes.{left-zero, pointwise-put}
 use Rattle.ownership.proofs.Clears.{pointwise-cleared, length-clearedIn}

@@ -18,7 +18,7 @@ use Rattle.masks.specs.Mask.{Mask, noMask, plainMask, condensedMask}
 use Rattle.payload.specs.Writing.{cutBytes}
 use Rattle.cutout.specs.CutOut.{ownedBit, cleared, readied, put}
 use Rattle.ownership.specs.Ownership.{Cut, ownedAt, owns}
-use Rattle.ownership.specs.Effects.{sourceFor, writtenIn, sourceAt, imprint, left, afterWrite}
+use Rattle.ownership.proofs.Effects.{sourceFor, writtenIn, sourceAt, imprint, left, afterWrite}
 use Rattle.ownership.proofs.Places.{Pointwise, pointwise-packed, pointwise-as, pointwise-then, length-inCutOut, bytes-inCutOut}
 use Rattle.ownership.proofs.Laid.{Inside, holds, standsAt, bitAt-inCut, bits-owned, bits-source, bitAt-footprint, bitAt-imprint}
 use Rattle.ownership.proofs.Clears.{clearsTo, pointwise-cleared}

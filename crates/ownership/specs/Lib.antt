@@ -1,3 +1,2 @@
--- `Ownership` has which bits of a payload a field owns, and `Effects` what becomes of them.
+-- Which bits of a payload a field owns.
 pub mod Ownership
-pub mod Effects

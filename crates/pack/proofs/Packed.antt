@@ -19,7 +19,7 @@ use Rattle.masks.specs.Plain.{maskBit}
 use Rattle.masks.proofs.Masked.{maskBit-lt}
 use Rattle.condensed.proofs.Replaced.{bits-replaced}
 use Rattle.pack.specs.declared.Packing.{Packing}
-use Rattle.pack.specs.Packing.{framedBit, packedBit, packedBitsUnder, aligning}
+use Rattle.pack.specs.CodePacking.{framedBit, packedBit, packedBitsUnder, aligning}
 
 -- what the code reads of a number
 bit-code : (x k : ℕ) → bitAnd (x / 2 ^ k) 1 ≡ bit x k

@@ -22,7 +22,7 @@ use Rattle.masks.specs.Plain.{maskBit}
 use Rattle.condensed.specs.Condensed.{replaced}
 use Rattle.pack.specs.declared.Packing.{Packing}
 use Rattle.pack.specs.Source.{Source, bytesSource, lastBytes, firstBytes, standardBits, sizeUnder, standardSource, behindLength, terminated}
-use Rattle.pack.specs.Packing.{framedBit, packedBit, packedSource, framing, aligning, packing}
+use Rattle.pack.specs.CodePacking.{framedBit, packedBit, packedSource, framing, aligning, packing}
 
 -- two sources that are written alike
 abbrev pub Alike : Source → Source → Type 0

@@ -1,3 +1,3 @@
--- `Source` has what becomes of the input, and `Packing` how the code describes it.
+-- `Source` has what becomes of the input, and `CodePacking` how the code describes it.
 pub mod Source
-pub mod Packing
+pub mod CodePacking

@@ -44,10 +44,10 @@ unfoldable pub standardBits : DataType → ℕ → List ℕ → ℕ → ℕ
 standardBits t len input = trimmed (len % 8) (bitAt (aligned t (bytesFor len) input))
 
 -- an empty mask counts as none
-abbrev pub counted : Mask → Mask
-counted noMask = noMask
-counted (plainMask mask) = cond (eqb (length mask) 0) noMask (plainMask mask)
-counted (condensedMask mask) = cond (eqb (length mask) 0) noMask (condensedMask mask)
+abbrev pub effectiveMask : Mask → Mask
+effectiveMask noMask = noMask
+effectiveMask (plainMask mask) = cond (eqb (length mask) 0) noMask (plainMask mask)
+effectiveMask (condensedMask mask) = cond (eqb (length mask) 0) noMask (condensedMask mask)
 
 -- a condensed mask sets the length: 8 x mask bytes
 abbrev pub sizeUnder : Mask → ℕ → ℕ

@@ -6,7 +6,7 @@ ghost use lib.ListN.{length};
 ghost use lib.Dec.{eqb};
 ghost use Rattle.bits.specs.Moves.{injected};
 ghost use Rattle.masks.specs.Mask.{maskOf, plainIf};
-ghost use Rattle.pack.specs.Packing.{framedBit, packedBit, packedBitsUnder, framing, aligning, packing};
+ghost use Rattle.pack.specs.CodePacking.{framedBit, packedBit, packedBitsUnder, framing, aligning, packing};
 use kinds::BitLength;
 use kinds::ByteCount;
 use masks::MaskUse;

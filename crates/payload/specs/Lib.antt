@@ -1,4 +1,3 @@
--- `Answers` has what an encode or a clear answers, and `Writing` what becomes of a payload when a source is written or a field's bits are
--- cleared.
-pub mod Answers
+-- `Payload` has a slice with a used length, and `Writing` what becomes of it when a source is written or a field's bits are cleared.
+pub mod Payload
 pub mod Writing

@@ -4,8 +4,10 @@ ghost use Prim.Native.Nat.{_^_, _<_, _≤_, max};
 ghost use lib.ListN.{length};
 ghost use Rattle.masks.specs.Mask.{maskOf};
 ghost use Rattle.pack.specs.Source.{sizeUnder};
-ghost use Rattle.pack.specs.Packing.{packedSource};
-ghost use Rattle.payload.specs.Answers.{payloadOf, answered};
+ghost use Rattle.pack.specs.CodePacking.{packedSource};
+ghost use Rattle.kinds.specs.Answers.{reportOfWriting};
+ghost use Rattle.kinds.specs.Outcomes.{answer};
+ghost use Rattle.payload.specs.Payload.{payloadOf, writeAnswer};
 ghost use Rattle.payload.specs.Writing.{grown, cutBytes, cutEnd, writing, clearing};
 use kinds::BitLength;
 use kinds::ByteCount;
@@ -68,7 +70,7 @@ pub fn write_source(
     requires { ⌜ length (now «uds_payload») ≤ 65535 ⌝ }
     requires { ⌜ now used ≤ length (now «uds_payload») ⌝ }
     requires { ⌜ packing .«bit_len» .0 ≡ sizeUnder (maskOf «mask_use» (now mask)) (packing .«bit_len» .0) ⌝ }
-    ensures { λ r. ⌜ answered r (payloadOf (now («uds_payload» .exit)) (now (used .exit))) ≡ writing «byte_order» (packedSource packing (maskOf «mask_use» (now (mask .entry))) (now («data» .entry))) (payloadOf (now («uds_payload» .entry)) (now (used .entry))) «byte_pos» «bit_pos» ⌝ }
+    ensures { λ r. ⌜ answer (reportOfWriting r) (payloadOf (now («uds_payload» .exit)) (now (used .exit))) ≡ writeAnswer (payloadOf (now («uds_payload» .entry)) (now (used .entry))) (writing «byte_order» (packedSource packing (maskOf «mask_use» (now (mask .entry))) (now («data» .entry))) (payloadOf (now («uds_payload» .entry)) (now (used .entry))) «byte_pos» «bit_pos») ⌝ }
 {
     if 7 < bit_pos {
         return Writing::Refused(Refusal::BitPositionAboveSeven);
@@ -105,17 +107,17 @@ pub fn clear_source(
 ) -> Writing
     requires { ⌜ length (now «uds_payload») ≤ 65535 ⌝ }
     requires { ⌜ used ≤ length (now «uds_payload») ⌝ }
-    ensures { λ r. ⌜ answered r (payloadOf (now («uds_payload» .exit)) used) ≡ clearing «byte_order» (maskOf «mask_use» (now (mask .entry))) («bit_len» .0) (payloadOf (now («uds_payload» .entry)) used) «byte_pos» «bit_pos» ⌝ }
+    ensures { λ r. ⌜ answer (reportOfWriting r) (payloadOf (now («uds_payload» .exit)) used) ≡ writeAnswer (payloadOf (now («uds_payload» .entry)) used) (clearing «byte_order» (maskOf «mask_use» (now (mask .entry))) («bit_len» .0) (payloadOf (now («uds_payload» .entry)) used) «byte_pos» «bit_pos») ⌝ }
 {
     if 7 < bit_pos {
         return Writing::Refused(Refusal::BitPositionAboveSeven);
     }
     let end_pos = cut_end(byte_pos, bit_pos, bit_len);
     if used < end_pos {
-        return Writing::Refused(Refusal::NotEnoughData {
+        return Writing::NotEnoughData {
             expected: end_pos,
             actual: used,
-        });
+        };
     }
     cutout::clear_cut_out(
         &mut uds_payload[byte_pos..end_pos],

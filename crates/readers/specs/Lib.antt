@@ -1,3 +1,3 @@
--- `Finding` has what each variant finds, and `Located` what is read at a place that was found.
+-- `Finding` has what each variant finds, and `CodeReading` how the code gets there.
 pub mod Finding
-pub mod Located
+pub mod CodeReading

@@ -1,4 +1,4 @@
-// What each variant reads, after what it refuses: where its bits are, and what is taken from there.
+// Decode of a field: what each variant reads, after what it refuses.
 mod variants; // variants.rt: each variant's reading
 
-pub use variants::decode_variant;
+pub use variants::decode_field;

@@ -2,23 +2,26 @@
 ghost use mathlib.Core.Path.{_≡_};
 ghost use Prim.Native.Nat.{_≤_};
 ghost use lib.ListN.{length};
+ghost use Rattle.kinds.specs.Answers.{reportOfReading};
+ghost use Rattle.kinds.specs.Outcomes.{gives, after, answer};
+ghost use Rattle.kinds.specs.CodePlaces.{span, outcomeOfSearch};
+ghost use Rattle.kinds.specs.Refusals.{bitLengthRefusal};
 ghost use Rattle.masks.specs.Mask.{noMask, maskOf};
-ghost use Rattle.field.specs.Field.{maskIn, shapeOf};
-ghost use Rattle.positions.specs.Located.{locatedOf};
-ghost use Rattle.unpack.specs.Answers.{answer, answered};
-ghost use Rattle.readers.specs.Finding.{standardFinding, leadingFinding, minMaxFinding, shapeFinding};
-ghost use Rattle.readers.specs.Located.{readBits, readAt};
-use coded::DiagCodedTypeVariant;
+ghost use Rattle.field.specs.Field.{field};
+ghost use Rattle.unpack.specs.Found.{readAnswer};
+ghost use Rattle.readers.specs.Finding.{standardFinding, leadingFinding, minMaxFinding, shapeFinding, decodeOf};
+ghost use Rattle.readers.specs.CodeReading.{readBits, readAt};
 use coded::MinMaxLengthType;
-use coded::StandardLengthType;
+use field::Shape;
 use kinds::BitLength;
 use kinds::ByteCount;
 use kinds::ByteOrder;
+use kinds::Check;
 use kinds::DataType;
+use kinds::PosInfo;
 use kinds::Reading;
 use kinds::Refusal;
 use masks::MaskUse;
-use positions::PosInfo;
 
 fn unpack_at(
     bit_len: BitLength,
@@ -32,7 +35,7 @@ fn unpack_at(
 ) -> Reading
     requires { ⌜ length (now mask) ≤ 65535 ⌝ }
     requires { ⌜ length (now payload) ≤ 65535 ⌝ }
-    ensures { λ r. ⌜ answered r (now (output .exit)) ≡ readBits «byte_order» («bit_len» .0) (maskOf «mask_use» (now (mask .entry))) (now (payload .entry)) «start_pos» «bit_pos» (now (output .entry)) ⌝ }
+    ensures { λ r. ⌜ answer (reportOfReading r) (now (output .exit)) ≡ readAnswer (now (output .entry)) (readBits «byte_order» («bit_len» .0) (maskOf «mask_use» (now (mask .entry))) (now (payload .entry)) «start_pos» «bit_pos») ⌝ }
 {
     // nothing to extract: with limits and a minimum of 0 that may be past the payload
     if bit_len.bits() == 0 {
@@ -43,10 +46,10 @@ fn unpack_at(
     }
     let end_pos = kinds::saturating_add(start_pos, bit_len.byte_count().bytes());
     if payload.len() < end_pos {
-        return Reading::Refused(Refusal::NotEnoughData {
+        return Reading::NotEnoughData {
             expected: end_pos,
             actual: payload.len(),
-        });
+        };
     }
     unpack::unpack_data(
         bit_len,
@@ -70,10 +73,11 @@ fn unpack_found(
 ) -> Reading
     requires { ⌜ length (now mask) ≤ 65535 ⌝ }
     requires { ⌜ length (now payload) ≤ 65535 ⌝ }
-    ensures { λ r. ⌜ answered r (now (output .exit)) ≡ readAt (locatedOf «pos_info») «byte_order» (maskOf «mask_use» (now (mask .entry))) (now (payload .entry)) «bit_pos» (now (output .entry)) ⌝ }
+    ensures { λ r. ⌜ answer (reportOfReading r) (now (output .exit)) ≡ readAnswer (now (output .entry)) (readAt (outcomeOfSearch «pos_info») «byte_order» (maskOf «mask_use» (now (mask .entry))) (now (payload .entry)) «bit_pos») ⌝ }
 {
     match pos_info {
         PosInfo::Refused(refusal) => Reading::Refused(refusal),
+        PosInfo::NotEnoughData { expected, actual } => Reading::NotEnoughData { expected, actual },
         PosInfo::Found { bit_len, start_pos } => unpack_at(
             bit_len,
             start_pos,
@@ -95,7 +99,7 @@ fn unpack_data_bytes(
     output: &mut [u8],
 ) -> Reading
     requires { ⌜ length (now payload) ≤ 65535 ⌝ }
-    ensures { λ r. ⌜ answered r (now (output .exit)) ≡ readAt (locatedOf «pos_info») «byte_order» noMask (now (payload .entry)) 0 (now (output .entry)) ⌝ }
+    ensures { λ r. ⌜ answer (reportOfReading r) (now (output .exit)) ≡ readAnswer (now (output .entry)) (readAt (outcomeOfSearch «pos_info») «byte_order» noMask (now (payload .entry)) 0) ⌝ }
 {
     let no_mask = &payload[..0];
     unpack_found(
@@ -118,7 +122,7 @@ fn decode_leading_len(
     output: &mut [u8],
 ) -> Reading
     requires { ⌜ length (now payload) ≤ 65535 ⌝ }
-    ensures { λ r. ⌜ answered r (now (output .exit)) ≡ answer (leadingFinding «base_datatype» «byte_order» (bits .0) (now (payload .entry)) «byte_pos») (length (now (payload .entry))) (now (output .entry)) ⌝ }
+    ensures { λ r. ⌜ answer (reportOfReading r) (now (output .exit)) ≡ readAnswer (now (output .entry)) (leadingFinding «base_datatype» «byte_order» (bits .0) (now (payload .entry)) «byte_pos») ⌝ }
 {
     let pos_info = length_field::pos_info_leading_len(
         base_datatype,
@@ -139,32 +143,42 @@ fn decode_min_max_len(
     output: &mut [u8],
 ) -> Reading
     requires { ⌜ length (now payload) ≤ 65535 ⌝ }
-    ensures { λ r. ⌜ answered r (now (output .exit)) ≡ answer (minMaxFinding «base_datatype» «byte_order» limits (now (payload .entry)) «byte_pos») (length (now (payload .entry))) (now (output .entry)) ⌝ }
+    ensures { λ r. ⌜ answer (reportOfReading r) (now (output .exit)) ≡ readAnswer (now (output .entry)) (minMaxFinding «base_datatype» «byte_order» limits (now (payload .entry)) «byte_pos») ⌝ }
 {
     let is_unicode = base_datatype.is_unicode();
     let pos_info = scans::pos_info_min_max_len(is_unicode, payload, byte_pos, limits);
     unpack_data_bytes(pos_info, payload, byte_order, output)
 }
 
+// A field whose length the description tells is where it says.
+fn pos_info_standard_len(base_datatype: DataType, byte_pos: usize, bit_length: BitLength) -> PosInfo
+    ensures { λ r. ⌜ outcomeOfSearch r ≡ after (bitLengthRefusal «base_datatype» («bit_length» .0)) (gives (span «byte_pos» («bit_length» .0))) ⌝ }
+{
+    match base_datatype.validate_bit_len(bit_length) {
+        Check::Refused(refusal) => PosInfo::Refused(refusal),
+        Check::Passed => PosInfo::Found {
+            bit_len: bit_length,
+            start_pos: byte_pos,
+        },
+    }
+}
+
 fn decode_standard_len(
     base_datatype: DataType,
-    standard: StandardLengthType,
-    store: &[u8],
+    bit_length: BitLength,
+    mask_use: MaskUse,
+    mask: &[u8],
     payload: &[u8],
     byte_pos: usize,
     bit_pos: usize,
     byte_order: ByteOrder,
     output: &mut [u8],
 ) -> Reading
-    requires { ⌜ length (now store) ≤ 65535 ⌝ }
+    requires { ⌜ length (now mask) ≤ 65535 ⌝ }
     requires { ⌜ length (now payload) ≤ 65535 ⌝ }
-    ensures { λ r. ⌜ answered r (now (output .exit)) ≡ answer (standardFinding «base_datatype» «byte_order» (standard .«bit_length» .0) (maskIn (now (store .entry)) standard) (now (payload .entry)) «byte_pos» «bit_pos») (length (now (payload .entry))) (now (output .entry)) ⌝ }
+    ensures { λ r. ⌜ answer (reportOfReading r) (now (output .exit)) ≡ readAnswer (now (output .entry)) (standardFinding «base_datatype» «byte_order» («bit_length» .0) (maskOf «mask_use» (now (mask .entry))) (now (payload .entry)) «byte_pos» «bit_pos») ⌝ }
 {
-    let bit_length = standard.bit_length;
-    let bit_mask = standard.bit_mask;
-    let mask_use = field::mask_use(bit_mask, standard.condensed);
-    let mask = field::placed_part(store, bit_mask);
-    let pos_info = positions::pos_info_standard_len(base_datatype, byte_pos, bit_length);
+    let pos_info = pos_info_standard_len(base_datatype, byte_pos, bit_length);
     unpack_found(
         pos_info,
         bit_pos,
@@ -176,37 +190,71 @@ fn decode_standard_len(
     )
 }
 
-pub fn decode_variant(
+fn decode_shape(
     base_datatype: DataType,
-    type_: DiagCodedTypeVariant,
-    store: &[u8],
+    byte_order: ByteOrder,
+    shape: Shape,
+    mask_use: MaskUse,
+    mask: &[u8],
     payload: &[u8],
     byte_pos: usize,
     bit_pos: usize,
-    byte_order: ByteOrder,
     output: &mut [u8],
 ) -> Reading
-    requires { ⌜ length (now store) ≤ 65535 ⌝ }
+    requires { ⌜ length (now mask) ≤ 65535 ⌝ }
     requires { ⌜ length (now payload) ≤ 65535 ⌝ }
-    ensures { λ r. ⌜ answered r (now (output .exit)) ≡ answer (shapeFinding «base_datatype» «byte_order» (shapeOf (now (store .entry)) «type_») (now (payload .entry)) «byte_pos» «bit_pos») (length (now (payload .entry))) (now (output .entry)) ⌝ }
+    ensures { λ r. ⌜ answer (reportOfReading r) (now (output .exit)) ≡ readAnswer (now (output .entry)) (shapeFinding «base_datatype» «byte_order» shape (maskOf «mask_use» (now (mask .entry))) (now (payload .entry)) «byte_pos» «bit_pos») ⌝ }
 {
-    match type_ {
-        DiagCodedTypeVariant::LeadingLengthInfo(bits) => {
+    match shape {
+        Shape::Leading(bits) => {
             decode_leading_len(base_datatype, bits, payload, byte_pos, byte_order, output)
         }
-        DiagCodedTypeVariant::MinMaxLength(limits) => {
+        Shape::MinMax(limits) => {
             decode_min_max_len(base_datatype, limits, payload, byte_pos, byte_order, output)
         }
-        DiagCodedTypeVariant::StandardLength(standard) => decode_standard_len(
+        Shape::Standard(bits) => decode_standard_len(
             base_datatype,
-            standard,
-            store,
+            bits,
+            mask_use,
+            mask,
             payload,
             byte_pos,
             bit_pos,
             byte_order,
             output,
         ),
-        DiagCodedTypeVariant::ParamLengthInfo(_) => Reading::Refused(Refusal::RuntimeLengthNeeded),
+        Shape::Param => Reading::Refused(Refusal::RuntimeLengthNeeded),
+    }
+}
+
+// Reads a field at a byte position and a bit position into the output.
+pub fn decode_field(
+    base_datatype: DataType,
+    byte_order: ByteOrder,
+    shape: Shape,
+    mask_use: MaskUse,
+    mask: &[u8],
+    payload: &[u8],
+    byte_pos: usize,
+    bit_pos: usize,
+    output: &mut [u8],
+) -> Reading
+    requires { ⌜ length (now mask) ≤ 65535 ⌝ }
+    requires { ⌜ length (now payload) ≤ 65535 ⌝ }
+    ensures { λ r. ⌜ answer (reportOfReading r) (now (output .exit)) ≡ decodeOf (field «base_datatype» «byte_order» shape (maskOf «mask_use» (now (mask .entry)))) (now (payload .entry)) «byte_pos» «bit_pos» (now (output .entry)) ⌝ }
+{
+    match base_datatype.validate_bit_pos(bit_pos) {
+        Check::Refused(refusal) => Reading::Refused(refusal),
+        Check::Passed => decode_shape(
+            base_datatype,
+            byte_order,
+            shape,
+            mask_use,
+            mask,
+            payload,
+            byte_pos,
+            bit_pos,
+            output,
+        ),
     }
 }

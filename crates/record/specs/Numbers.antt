@@ -24,6 +24,10 @@ flagsOf byte =
       others = byte / 16;
     }
 
+-- a record has 16 bytes
+abbrev pub recordSize : ℕ
+recordSize = 16
+
 -- type; flags; variant; termination; 32-bit bit length or min; 32-bit max; 16-bit place and 16-bit length of mask or key name
 abbrev pub numbersOf : List ℕ → Numbers
 numbersOf bytes =

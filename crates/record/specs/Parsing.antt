@@ -2,6 +2,8 @@
 -- flag says is absent, is 0, other flag bits too.
 use Prim.Native.Nat.{ℕ}
 use mathlib.Core.Bool.{Bool, cond, not, _||_, _&&_}
+use mathlib.Core.List.{List}
+use lib.ListN.{length}
 use lib.Dec.{eqb}
 use Rattle.kinds.specs.declared.types.DataType.the-variants.{Int32, UInt32, Float32, AsciiString, Utf8String, Unicode2String, ByteField, Float64}
 use Rattle.coded.specs.declared.variants.OptionalPlace.the-variants.{At, Absent}
@@ -12,6 +14,7 @@ use Rattle.coded.specs.declared.variants.Termination.the-variants.{EndOfPdu, Ze
 use Rattle.coded.specs.declared.variants.DiagCodedTypeVariant.{DiagCodedTypeVariant}
 use Rattle.coded.specs.declared.variants.DiagCodedTypeVariant.the-variants.{LeadingLengthInfo, MinMaxLength, StandardLength, ParamLengthInfo}
 use Rattle.record.specs.declared.numbers.Numbers.{Numbers}
+use Rattle.record.specs.Numbers.{recordSize, numbersOf}
 use Rattle.record.specs.declared.parsing.OptionalType.{OptionalType}
 use Rattle.record.specs.declared.parsing.OptionalType.the-variants as type
 use Rattle.record.specs.declared.parsing.OptionalTermination.{OptionalTermination}
@@ -41,23 +44,23 @@ terminationOf code =
     (cond (eqb code 3) (termination.Known HexFF) termination.Unknown))
 
 -- termination, max flag or max: of MinMax alone
-abbrev pub limited : Numbers → Bool
-limited n = not (eqb (n .termination) 0) || n .flags .max || not (eqb (n .most) 0)
+abbrev pub hasLimits : Numbers → Bool
+hasLimits n = not (eqb (n .termination) 0) || n .flags .max || not (eqb (n .most) 0)
 
 -- mask flag or condensed flag: of Standard alone
-abbrev pub masked : Numbers → Bool
-masked n = n .flags .mask || n .flags .condensed
+abbrev pub hasMask : Numbers → Bool
+hasMask n = n .flags .mask || n .flags .condensed
 
 -- place or length of mask or key name
-abbrev pub placed : Numbers → Bool
-placed n = not (eqb (n .place .at) 0) || not (eqb (n .place .len) 0)
+abbrev pub hasPlace : Numbers → Bool
+hasPlace n = not (eqb (n .place .at) 0) || not (eqb (n .place .len) 0)
 
 -- a variant, unless something stands where it has nothing
 abbrev pub lacking : Bool → DiagCodedTypeVariant → OptionalVariant
 lacking something v = cond something variant.Malformed (variant.Known v)
 
 abbrev pub leadingOf : Numbers → OptionalVariant
-leadingOf n = lacking (limited n || masked n || placed n) (LeadingLengthInfo (record { 0 = n .length }))
+leadingOf n = lacking (hasLimits n || hasMask n || hasPlace n) (LeadingLengthInfo (record { 0 = n .length }))
 
 abbrev pub maxOf : Numbers → MaxLength
 maxOf n = cond (n .flags .max) (Most (n .most)) Unlimited
@@ -67,17 +70,17 @@ limitsOf n t =
     lacking (not (n .flags .max) && not (eqb (n .most) 0))
     (MinMaxLength (record { «min_length» = n .length; «max_length» = maxOf n; termination = t }))
 
-abbrev pub terminated : Numbers → OptionalTermination → OptionalVariant
-terminated n (termination.Known t) = limitsOf n t
-terminated n termination.Unknown = variant.Malformed
+abbrev pub limitsBy : Numbers → OptionalTermination → OptionalVariant
+limitsBy n (termination.Known t) = limitsOf n t
+limitsBy n termination.Unknown = variant.Malformed
 
 abbrev pub minMaxOf : Numbers → OptionalVariant
-minMaxOf n = cond (masked n || placed n) variant.Malformed (terminated n (terminationOf (n .termination)))
+minMaxOf n = cond (hasMask n || hasPlace n) variant.Malformed (limitsBy n (terminationOf (n .termination)))
 
 -- condensed without a mask is legal
 abbrev pub standardOf : Numbers → OptionalVariant
 standardOf n =
-    lacking (limited n || (not (n .flags .mask) && placed n))
+    lacking (hasLimits n || (not (n .flags .mask) && hasPlace n))
     (StandardLength
     (record {
       «bit_length» = record { 0 = n .length };
@@ -86,7 +89,7 @@ standardOf n =
     }))
 
 abbrev pub paramOf : Numbers → OptionalVariant
-paramOf n = lacking (limited n || masked n || not (eqb (n .length) 0)) (ParamLengthInfo (n .place))
+paramOf n = lacking (hasLimits n || hasMask n || not (eqb (n .length) 0)) (ParamLengthInfo (n .place))
 
 -- variant 1 to 4 in the source's order
 abbrev pub variantOf : Numbers → OptionalVariant
@@ -103,3 +106,7 @@ made type.Unknown v highLow = coded.Malformed
 
 unfoldable pub codedOf : Numbers → OptionalCoded
 codedOf n = cond (eqb (n .flags .others) 0) (made (typeOf (n .«type_code»)) (variantOf n) (n .flags .«high_low»)) coded.Malformed
+
+-- a record of another size is malformed too
+abbrev pub codedIn : List ℕ → OptionalCoded
+codedIn bytes = cond (eqb (length bytes) recordSize) (codedOf (numbersOf bytes)) coded.Malformed

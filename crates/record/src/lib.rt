@@ -4,9 +4,10 @@ mod parsing; // parsing.rt: from the numbers of a record to the coded type that 
 mod calls; // calls.rt: what a call that takes a record refuses before it has a coded type
 
 pub use calls::Recorded;
-pub use calls::described;
+pub use calls::coded_by_record;
 pub use numbers::Flags;
 pub use numbers::Numbers;
+pub use numbers::RECORD_SIZE;
 pub use numbers::read16;
 pub use parsing::OptionalCoded;
 pub use parsing::OptionalTermination;

@@ -2,8 +2,11 @@
 ghost use mathlib.Core.Path.{_≡_};
 ghost use Prim.Native.Nat.{_+_, _≤_, _<_};
 ghost use lib.ListN.{length};
-ghost use Rattle.record.specs.Numbers.{be16, be32, flagsOf, numbersOf};
+ghost use Rattle.record.specs.Numbers.{be16, be32, flagsOf, recordSize, numbersOf};
 use coded::Place;
+
+// The bytes of a record.
+pub const RECORD_SIZE: usize = 16;
 
 // The four flags, and the bits beside them.
 pub struct Flags {
@@ -55,7 +58,7 @@ fn flags_of(byte: u8) -> Flags
 }
 
 pub fn numbers_of(record: &[u8]) -> Numbers
-    requires { ⌜ length (now «record») ≡ 16 ⌝ }
+    requires { ⌜ length (now «record») ≡ recordSize ⌝ }
     ensures { λ r. ⌜ r ≡ numbersOf (now («record» .entry)) ⌝ }
 {
     let flags = flags_of(record[1]);

@@ -1,9 +1,8 @@
 // From the numbers of a record to the coded type that they say. What a variant lacks has to be 0.
 ghost use mathlib.Core.Path.{_≡_};
-ghost use lib.ListN.{length};
-ghost use Rattle.record.specs.Numbers.{numbersOf};
-ghost use Rattle.record.specs.Parsing.{typeOf, terminationOf, limited, masked, placed, leadingOf, minMaxOf, standardOf, paramOf, limitsOf, variantOf, codedOf};
+ghost use Rattle.record.specs.Parsing.{typeOf, terminationOf, hasLimits, hasMask, hasPlace, leadingOf, minMaxOf, standardOf, paramOf, limitsOf, variantOf, codedOf, codedIn};
 use super::numbers::Numbers;
+use super::numbers::RECORD_SIZE;
 use super::numbers::numbers_of;
 use coded::DiagCodedType;
 use coded::DiagCodedTypeVariant;
@@ -64,7 +63,7 @@ fn termination_of(code: u8) -> OptionalTermination
 
 // What MinMaxLength alone has: a termination, a maximum.
 fn has_limits(numbers: Numbers) -> bool
-    ensures { λ r. ⌜ r ≡ limited numbers ⌝ }
+    ensures { λ r. ⌜ r ≡ hasLimits numbers ⌝ }
 {
     if numbers.termination != 0 {
         return true;
@@ -77,7 +76,7 @@ fn has_limits(numbers: Numbers) -> bool
 
 // What StandardLength alone has.
 fn has_mask(numbers: Numbers) -> bool
-    ensures { λ r. ⌜ r ≡ masked numbers ⌝ }
+    ensures { λ r. ⌜ r ≡ hasMask numbers ⌝ }
 {
     if numbers.flags.mask {
         return true;
@@ -87,7 +86,7 @@ fn has_mask(numbers: Numbers) -> bool
 
 // What a mask and a key name have.
 fn has_place(numbers: Numbers) -> bool
-    ensures { λ r. ⌜ r ≡ placed numbers ⌝ }
+    ensures { λ r. ⌜ r ≡ hasPlace numbers ⌝ }
 {
     if numbers.place.at != 0 {
         return true;
@@ -203,11 +202,10 @@ fn variant_of(numbers: Numbers) -> OptionalVariant
     }
 }
 
-pub fn parse(record: &[u8]) -> OptionalCoded
-    requires { ⌜ length (now «record») ≡ 16 ⌝ }
-    ensures { λ r. ⌜ r ≡ codedOf (numbersOf (now («record» .entry))) ⌝ }
+// The coded type that the numbers of a record say.
+fn coded_of(numbers: Numbers) -> OptionalCoded
+    ensures { λ r. ⌜ r ≡ codedOf numbers ⌝ }
 {
-    let numbers = numbers_of(record);
     let is_high_low_byte_order = numbers.flags.high_low;
     if numbers.flags.others != 0 {
         return OptionalCoded::Malformed;
@@ -223,4 +221,14 @@ pub fn parse(record: &[u8]) -> OptionalCoded
             }),
         },
     }
+}
+
+// The coded type that a record says, if it is one.
+pub fn parse(record: &[u8]) -> OptionalCoded
+    ensures { λ r. ⌜ r ≡ codedIn (now («record» .entry)) ⌝ }
+{
+    if record.len() != RECORD_SIZE {
+        return OptionalCoded::Malformed;
+    }
+    coded_of(numbers_of(record))
 }

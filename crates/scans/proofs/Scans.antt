@@ -6,15 +6,15 @@ use Prim.Native.Nat.{ℕ, zero, suc, _+_, _-_, _*_, _/_, _≤_, _<_, max}
 use native.Mathlib.Omega.{arith}
 use lib.ListN.{length}
 use lib.Dec.{ltb}
-use Rattle.kinds.specs.Slices.{sum}
-use Rattle.kinds.specs.Rules.{rule, firstOf}
+use Rattle.kinds.specs.declared.refusals.Refusal.the-variants.{ScanPastPayload}
+use Rattle.kinds.specs.Outcomes.{rule, firstOf, Outcome, after}
+use Rattle.kinds.specs.CodePlaces.{Span}
 use Rattle.coded.specs.declared.variants.MaxLength.{MaxLength}
 use Rattle.coded.specs.declared.variants.MaxLength.the-variants.{Most, Unlimited}
 use Rattle.coded.specs.declared.variants.Termination.{Termination}
 use Rattle.coded.specs.declared.variants.Termination.the-variants.{EndOfPdu, Zero, HexFF}
 use Rattle.coded.specs.declared.variants.MinMaxLengthType.{MinMaxLengthType}
-use Rattle.positions.specs.Located.{Located, located}
-use Rattle.scans.specs.MinMax.{maxEnd, stopsAt, scan, scanned, endBy, endsWithZero, minMaxEnd, minMaxPlace}
+use Rattle.scans.specs.MinMax.{maxEnd, stopsAt, scan, scanned, endBy, endsWithZero, atLeast, minMaxEnd, minMaxPlace}
 
 pub maxEnd-le : (m : MaxLength) (at n : ℕ) → maxEnd m at n ≤ n
 maxEnd-le (Most most) at n = omega arith
@@ -65,8 +65,8 @@ module _ (m : MinMaxLengthType) (unicode : Bool) (payload : List ℕ) (at : ℕ)
   end-le = end-by-le (m .termination) unicode payload at (m .«min_length») (maxEnd (m .«max_length») at (length payload)) (maxEnd-le (m .«max_length») at (length payload))
 
   -- what is found where the data bytes end at p, which a scan for Zero may not take past the payload
-  abbrev pub foundBy : ℕ → Bool → Located
-  foundBy p past = located (firstOf (rule past 34 ∷ rule (ltb (p - at) (m .«min_length»)) 30 ∷ [])) (sum at (m .«min_length»)) (length payload) at (8 * (p - at))
+  abbrev pub foundBy : ℕ → Bool → Outcome Span
+  foundBy p past = after (firstOf (rule past ScanPastPayload ∷ [])) (atLeast (m .«min_length») p at (length payload))
 
   -- that is the contract's answer, by the way to the end that the termination names
   pub found-by : (t : Termination) (end p : ℕ) (past : Bool) → m .termination ≡ t → end ≡ maxEnd (m .«max_length») at (length payload)

@@ -4,18 +4,20 @@ use mathlib.Core.Bool.{Bool, true, false, cond, _&&_}
 use mathlib.Core.List.{List, [], _∷_}
 use lib.ListN.{length, getD}
 use lib.Dec.{eqb, ltb, leb}
-use Rattle.kinds.specs.Slices.{sum}
-use Rattle.kinds.specs.Rules.{rule, firstOf}
+use Rattle.kinds.specs.Slices.{saturatingSum}
+use Rattle.kinds.specs.declared.refusals.Refusal.the-variants.{ScanPastPayload}
+use Rattle.kinds.specs.declared.refusals.Check.{Check}
+use Rattle.kinds.specs.Outcomes.{rule, firstOf, Outcome, gives, after, unlessShort}
+use Rattle.kinds.specs.CodePlaces.{Span, span}
 use Rattle.coded.specs.declared.variants.MaxLength.{MaxLength}
 use Rattle.coded.specs.declared.variants.MaxLength.the-variants.{Most, Unlimited}
 use Rattle.coded.specs.declared.variants.Termination.{Termination}
 use Rattle.coded.specs.declared.variants.Termination.the-variants.{EndOfPdu, Zero, HexFF}
 use Rattle.coded.specs.declared.variants.MinMaxLengthType.{MinMaxLengthType}
-use Rattle.positions.specs.Located.{Located, located}
 
 -- the smaller of byte_pos+max and the payload's end; no max: the payload's end
 abbrev pub maxEnd : MaxLength → ℕ → ℕ → ℕ
-maxEnd (Most most) at n = min (sum at most) n
+maxEnd (Most most) at n = min (saturatingSum at most) n
 maxEnd Unlimited at n = n
 
 -- the payload has the byte x at p
@@ -52,17 +54,18 @@ endsWithZero EndOfPdu = false
 endsWithZero Zero = true
 endsWithZero HexFF = false
 
+-- the bytes up to an end; 30: fewer than min of them, in a payload of n
+abbrev pub atLeast : ℕ → ℕ → ℕ → ℕ → Outcome Span
+atLeast least end at n = unlessShort (ltb (end - at) least) (saturatingSum at least) n (gives (span at (8 * (end - at))))
+
 module _ (m : MinMaxLengthType) (unicode : Bool) (payload : List ℕ) (at : ℕ) where
   abbrev pub minMaxEnd : ℕ
   minMaxEnd = endBy (m .termination) unicode payload at (m .«min_length») (maxEnd (m .«max_length») at (length payload))
 
-  -- 34: the scan with Zero ends past the payload; 30: fewer than min bytes
-  abbrev pub scanRefusal : ℕ
-  scanRefusal =
-      firstOf
-      (rule (endsWithZero (m .termination) && ltb (length payload) minMaxEnd) 34
-      ∷ rule (ltb (minMaxEnd - at) (m .«min_length»)) 30
-      ∷ [])
+  -- 34: the scan with Zero ends past the payload
+  abbrev pub scanRefusal : Check
+  scanRefusal = firstOf (rule (endsWithZero (m .termination) && ltb (length payload) minMaxEnd) ScanPastPayload ∷ [])
 
-  abbrev pub minMaxPlace : Located
-  minMaxPlace = located scanRefusal (sum at (m .«min_length»)) (length payload) at (8 * (minMaxEnd - at))
+  -- 34, 30 for fewer than min bytes, and where the data bytes are
+  abbrev pub minMaxPlace : Outcome Span
+  minMaxPlace = after scanRefusal (atLeast (m .«min_length») minMaxEnd at (length payload))

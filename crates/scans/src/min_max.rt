@@ -1,20 +1,16 @@
 // Data bytes between limits, up to a terminator or the payload's end.
 ghost use mathlib.Core.Path.{_≡_};
 ghost use mathlib.Core.Bool.{true, false};
-ghost use mathlib.Core.List.{[], _∷_};
 ghost use Prim.Native.Nat.{_+_, _-_, _*_, _/_, _≤_, _<_};
 ghost use lib.ListN.{length};
-ghost use lib.Dec.{ltb};
-ghost use Rattle.kinds.specs.Slices.{sum};
-ghost use Rattle.kinds.specs.Rules.{rule, firstOf};
-ghost use Rattle.positions.specs.Located.{located, locatedOf};
-ghost use Rattle.scans.specs.MinMax.{maxEnd, hasAt, stopsAt, scan, scanned, minMaxPlace};
+ghost use Rattle.kinds.specs.CodePlaces.{outcomeOfSearch};
+ghost use Rattle.scans.specs.MinMax.{maxEnd, hasAt, stopsAt, scan, scanned, atLeast, minMaxPlace};
 use coded::MaxLength;
 use coded::MinMaxLengthType;
 use coded::Termination;
 use kinds::ByteCount;
+use kinds::PosInfo;
 use kinds::Refusal;
-use positions::PosInfo;
 
 // Where the data bytes end at the latest.
 fn max_end(max_length: MaxLength, byte_pos: usize, payload_len: usize) -> usize
@@ -150,14 +146,14 @@ fn distance(from: usize, to: usize) -> usize
 // The data bytes from a position to their end, unless they are fewer than the least.
 fn found_up_to(end_pos: usize, byte_pos: usize, min_length: usize, payload_len: usize) -> PosInfo
     requires { ⌜ «end_pos» - «byte_pos» ≤ 65536 ⌝ }
-    ensures { λ r. ⌜ locatedOf r ≡ located (firstOf (rule (ltb («end_pos» - «byte_pos») «min_length») 30 ∷ [])) (sum «byte_pos» «min_length») «payload_len» «byte_pos» (8 * («end_pos» - «byte_pos»)) ⌝ }
+    ensures { λ r. ⌜ outcomeOfSearch r ≡ atLeast «min_length» «end_pos» «byte_pos» «payload_len» ⌝ }
 {
     let len = distance(byte_pos, end_pos);
     if len < min_length {
-        return PosInfo::Refused(Refusal::NotEnoughData {
+        return PosInfo::NotEnoughData {
             expected: kinds::saturating_add(byte_pos, min_length),
             actual: payload_len,
-        });
+        };
     }
     PosInfo::Found {
         bit_len: ByteCount(len).bit_length(),
@@ -172,7 +168,7 @@ pub fn pos_info_min_max_len(
     limits: MinMaxLengthType,
 ) -> PosInfo
     requires { ⌜ length (now «uds_payload») ≤ 65535 ⌝ }
-    ensures { λ r. ⌜ locatedOf r ≡ minMaxPlace limits «is_unicode» (now («uds_payload» .entry)) «byte_pos» ⌝ }
+    ensures { λ r. ⌜ outcomeOfSearch r ≡ minMaxPlace limits «is_unicode» (now («uds_payload» .entry)) «byte_pos» ⌝ }
 {
     let min_length = limits.min_length as usize;
     let payload_len = uds_payload.len();

@@ -8,7 +8,7 @@ use Rattle.kinds.specs.declared.types.DataType.{DataType}
 use Rattle.kinds.specs.declared.types.DataType.the-variants.{Int32, UInt32, Float32, AsciiString, Utf8String, Unicode2String, ByteField, Float64}
 use Rattle.kinds.specs.declared.types.BitLength.{BitLength}
 use Rattle.kinds.specs.Types.{typeCode}
-use Rattle.kinds.proofs.Rules.{neither}
+use Rattle.kinds.proofs.Outcomes.{neither}
 use Rattle.coded.specs.declared.variants.Place.{Place}
 use Rattle.coded.specs.declared.variants.OptionalPlace.{OptionalPlace}
 use Rattle.coded.specs.declared.variants.OptionalPlace.the-variants.{At, Absent}
@@ -28,7 +28,7 @@ use Rattle.record.specs.declared.parsing.OptionalVariant.{OptionalVariant}
 use Rattle.record.specs.declared.parsing.OptionalVariant.the-variants as variant
 use Rattle.record.specs.declared.parsing.OptionalCoded.{OptionalCoded}
 use Rattle.record.specs.declared.parsing.OptionalCoded.the-variants as coded
-use Rattle.record.specs.Parsing.{typeOf, terminationOf, limited, masked, placed, leadingOf, terminated, minMaxOf, standardOf, paramOf, variantOf, made, codedOf}
+use Rattle.record.specs.Parsing.{typeOf, terminationOf, hasLimits, hasMask, hasPlace, leadingOf, limitsBy, minMaxOf, standardOf, paramOf, variantOf, made, codedOf}
 use Rattle.storing.specs.Storing.{terminationCode, nowhere, flags, isLimited, mostOf, isPlaced, placeOrZeros, plainNumbers, variantNumbers, numbersFor}
 
 -- the numbers of a coded type say it
@@ -118,24 +118,24 @@ placed-again true p = refl
 placed-again false p = refl
 
 module _ (n : Numbers) where
-  nowhere-again : placed n ≡ false → nowhere ≡ n .place
+  nowhere-again : hasPlace n ≡ false → nowhere ≡ n .place
   nowhere-again e =
       let z = neither _ _ e in
       let at = zero-of (n .place .at) (z .0) in
       let len = zero-of (n .place .len) (z .1) in
       λ i. record { at = at i; len = len i }
 
-  place-again : (set : Bool) → (not set && placed n) ≡ false → placeOrZeros (cond set (At (n .place)) Absent) ≡ n .place
+  place-again : (set : Bool) → (not set && hasPlace n) ≡ false → placeOrZeros (cond set (At (n .place)) Absent) ≡ n .place
   place-again true e = refl
   place-again false e = nowhere-again e
 
-  unlimited : limited n ≡ false → (0 ≡ n .termination) × (false ≡ n .flags .max) × (0 ≡ n .most)
+  unlimited : hasLimits n ≡ false → (0 ≡ n .termination) × (false ≡ n .flags .max) × (0 ≡ n .most)
   unlimited e =
       let z = neither _ _ e in
       let y = neither _ _ (z .0) in
       (zero-of (n .termination) (y .0), sym (y .1), zero-of (n .most) (z .1))
 
-  unmasked : masked n ≡ false → (false ≡ n .flags .mask) × (false ≡ n .flags .condensed)
+  unmasked : hasMask n ≡ false → (false ≡ n .flags .mask) × (false ≡ n .flags .condensed)
   unmasked e = let z = neither _ _ e in (sym (z .0), sym (z .1))
 
 -- of numbers without other flag bits
@@ -169,7 +169,7 @@ module _ (n : Numbers) (none : 0 ≡ n .flags .others) where
   Says (variant.Known v) = variantNumbers (n .«type_code») (n .flags .«high_low») v ≡ n
   Says variant.Malformed = Unit {0}
 
-  plain-says : (variant length : ℕ) (place : Place) → (limited n || masked n) ≡ false
+  plain-says : (variant length : ℕ) (place : Place) → (hasLimits n || hasMask n) ≡ false
       → variant ≡ n .variant → length ≡ n .length → place ≡ n .place
       → plainNumbers (n .«type_code») (n .flags .«high_low») variant length place ≡ n
   plain-says variant length place e v bits p =
@@ -180,24 +180,24 @@ module _ (n : Numbers) (none : 0 ≡ n .flags .others) where
 
   leading-says : n .variant ≡ 1 → Says (leadingOf n)
   leading-says v =
-      by-test Says (limited n || masked n || placed n) _ _ (λ e. tt)
+      by-test Says (hasLimits n || hasMask n || hasPlace n) _ _ (λ e. tt)
       (λ e. let z = neither _ _ e in plain-says 1 (n .length) nowhere (z .0) (sym v) refl (nowhere-again n (z .1)))
 
   param-says : n .variant ≡ 4 → Says (paramOf n)
   param-says v =
-      by-test Says (limited n || masked n || not (eqb (n .length) 0)) _ _ (λ e. tt)
+      by-test Says (hasLimits n || hasMask n || not (eqb (n .length) 0)) _ _ (λ e. tt)
       (λ e. let z = neither _ _ e in plain-says 4 0 (n .place) (z .0) (sym v) (zero-of (n .length) (z .1)) refl)
 
   standard-says : n .variant ≡ 3 → Says (standardOf n)
   standard-says v =
-      by-test Says (limited n || (not (n .flags .mask) && placed n)) _ _ (λ e. tt)
+      by-test Says (hasLimits n || (not (n .flags .mask) && hasPlace n)) _ _ (λ e. tt)
       (λ e.
       let z = neither _ _ e in
       let l = unlimited n (z .0) in
       agree (placed-again (n .flags .mask) (n .place)) refl (l .1) (sym v) (l .0) refl (l .2) (place-again n (n .flags .mask) (z .1)))
 
-  module _ (v : n .variant ≡ 2) (unmarked : (masked n || placed n) ≡ false) where
-    terminated-says : (t : OptionalTermination) → OfTermination (n .termination) t → Says (terminated n t)
+  module _ (v : n .variant ≡ 2) (unmarked : (hasMask n || hasPlace n) ≡ false) where
+    terminated-says : (t : OptionalTermination) → OfTermination (n .termination) t → Says (limitsBy n t)
     terminated-says (termination.Known t) c =
         by-test Says (not (n .flags .max) && not (eqb (n .most) 0)) _ _ (λ e. tt)
         (λ e.
@@ -209,7 +209,7 @@ module _ (n : Numbers) (none : 0 ≡ n .flags .others) where
 
   min-max-says : n .variant ≡ 2 → Says (minMaxOf n)
   min-max-says v =
-      by-test Says (masked n || placed n) _ _ (λ e. tt)
+      by-test Says (hasMask n || hasPlace n) _ _ (λ e. tt)
       (λ e. terminated-says v e (terminationOf (n .termination)) (of-termination (n .termination)))
 
   variant-says : Says (variantOf n)

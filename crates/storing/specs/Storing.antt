@@ -3,7 +3,10 @@ use Prim.Native.Nat.{ℕ, _+_, _*_, _/_, _%_}
 use mathlib.Core.Bool.{Bool, true, false, cond, _||_}
 use mathlib.Core.List.{List, [], _∷_}
 use lib.Dec.{eqb, ltb}
-use Rattle.kinds.specs.Rules.{rule, firstOf}
+use Rattle.kinds.specs.declared.refusals.Refusal.the-variants.{MalformedRecord}
+use Rattle.kinds.specs.declared.refusals.Check.{Check}
+use Rattle.kinds.specs.Answers.{wrote}
+use Rattle.kinds.specs.Outcomes.{rule, firstOf, gives, after, Answer, answer, concluded}
 use Rattle.kinds.specs.Types.{typeCode}
 use Rattle.coded.specs.declared.variants.Place.{Place}
 use Rattle.coded.specs.declared.variants.OptionalPlace.{OptionalPlace}
@@ -116,20 +119,9 @@ bytesOf n =
     ∷ []
 
 -- 42: a place or a length that 16 bits cannot say
-abbrev pub storingRefusal : Place → ℕ
-storingRefusal p = firstOf (rule (ltb 65535 (p .at)) 42 ∷ rule (ltb 65535 (p .len)) 42 ∷ [])
+abbrev pub storingRefusal : Place → Check
+storingRefusal p = firstOf (rule (ltb 65535 (p .at)) MalformedRecord ∷ rule (ltb 65535 (p .len)) MalformedRecord ∷ [])
 
--- the number, and the bytes of the record
-pub record Stored : Type 0 where
-  pub number : ℕ
-  pub bytes : List ℕ
-
-abbrev pub stored : ℕ → List ℕ → Stored
-stored number bytes = record { number = number; bytes = bytes }
-
--- a refusal leaves the record as it came
-abbrev pub storedAfter : ℕ → List ℕ → List ℕ → Stored
-storedAfter n new old = stored n (cond (eqb n 0) new old)
-
-unfoldable pub storedRecord : DiagCodedType → List ℕ → Stored
-storedRecord t old = storedAfter (storingRefusal (numbersFor t .place)) (bytesOf (numbersFor t)) old
+-- the record of a coded type; a refusal leaves the old bytes
+unfoldable pub storedRecord : DiagCodedType → List ℕ → Answer (List ℕ)
+storedRecord t old = concluded old (answer wrote) (after (storingRefusal (numbersFor t .place)) (gives (bytesOf (numbersFor t))))

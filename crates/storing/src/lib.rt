@@ -2,8 +2,9 @@
 ghost use mathlib.Core.Path.{_≡_};
 ghost use Prim.Native.Nat.{_<_, _/_, _%_};
 ghost use Rattle.kinds.specs.Types.{typeCode};
-ghost use Rattle.kinds.specs.Answers.{numberOfCheck};
-ghost use Rattle.storing.specs.Storing.{terminationCode, isLimited, mostOf, isPlaced, placeOrZeros, plainNumbers, minMaxNumbers, standardNumbers, numbersFor, flag, flagsByte, stored, storedRecord};
+ghost use Rattle.kinds.specs.Answers.{reportOfCheck};
+ghost use Rattle.kinds.specs.Outcomes.{answer};
+ghost use Rattle.storing.specs.Storing.{terminationCode, isLimited, mostOf, isPlaced, placeOrZeros, plainNumbers, minMaxNumbers, standardNumbers, numbersFor, flag, flagsByte, storedRecord};
 use coded::DiagCodedType;
 use coded::DiagCodedTypeVariant;
 use coded::MaxLength;
@@ -17,6 +18,7 @@ use kinds::DataType;
 use kinds::Refusal;
 use record::Flags;
 use record::Numbers;
+use record::RECORD_SIZE;
 
 fn type_code(base_datatype: DataType) -> u8
     ensures { λ r. ⌜ r ≡ typeCode «base_datatype» ⌝ }
@@ -188,8 +190,8 @@ fn digit(number: u32, weight: u32) -> u8
 }
 
 // 42 where a place of the store is past what 16 bits can say; the record is then as it came.
-pub fn record_of(coded_type: DiagCodedType, record: &mut [u8; 16]) -> Check
-    ensures { λ r. ⌜ stored (numberOfCheck r) (now («record» .exit)) ≡ storedRecord «coded_type» (now («record» .entry)) ⌝ }
+pub fn record_of(coded_type: DiagCodedType, record: &mut [u8; RECORD_SIZE]) -> Check
+    ensures { λ r. ⌜ answer (reportOfCheck r) (now («record» .exit)) ≡ storedRecord «coded_type» (now («record» .entry)) ⌝ }
 {
     let numbers = numbers_for(coded_type);
     if 65535 < numbers.place.at {

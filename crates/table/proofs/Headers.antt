@@ -6,11 +6,11 @@ use Prim.Native.Nat.{ℕ}
 use lib.ListN.{length}
 use lib.Dec.{eqb, ltb}
 use borrow.Author.Tests.{eqb-true, not-false}
-use Rattle.kinds.proofs.Rules.{neither}
+use Rattle.kinds.proofs.Outcomes.{neither}
 use Rattle.table.specs.declared.Header.{Header}
 use Rattle.table.specs.declared.OptionalHeader.{OptionalHeader}
 use Rattle.table.specs.declared.OptionalHeader.the-variants.{Valid, Malformed}
-use Rattle.table.specs.Table.{isMarked, saidBy, totalSize, isWrong, headerOf}
+use Rattle.table.specs.Table.{headerSize, isMarked, saidBy, totalSize, isWrong, headerOf}
 
 -- the total size that a valid header says
 abbrev Total : ℕ → OptionalHeader → Type 0
@@ -24,7 +24,7 @@ total-if size false h f = f refl
 right-size : (table : List ℕ) (h : Header) → isWrong table h ≡ false → totalSize h ≡ length table
 right-size table h e =
     let total = eqb (length table) (totalSize h) in
-    let others = ltb (length table) 9 || not (isMarked table) || ltb 1024 (h .count) || ltb 32768 (h .«store_len») in
+    let others = ltb (length table) headerSize || not (isMarked table) || ltb 1024 (h .count) || ltb 32768 (h .«store_len») in
     sym (eqb-true (length table) (totalSize h) (not-false total (neither others (not total) e .1)))
 
 pub total-size : (table : List ℕ) (h : Header) → Valid h ≡ headerOf table → totalSize h ≡ length table

@@ -1,18 +1,17 @@
 -- Document 01, 'Stored table': the header, and the record with a number.
 use Prim.Native.Nat.{ℕ, _+_, _*_}
 use mathlib.Core.Bool.{Bool, cond, not, _&&_, _||_}
-use mathlib.Core.List.{List}
+use mathlib.Core.List.{List, [], _∷_}
 use lib.ListN.{length, getD}
 use lib.Dec.{eqb, ltb, leb}
-use Rattle.kinds.specs.Answers.{numberOf}
-use Rattle.kinds.specs.Rules.{Outcome, gives, refuses, unless}
+use Rattle.kinds.specs.declared.refusals.Refusal.the-variants.{MalformedRecord, SliceTooLong, MalformedTable}
+use Rattle.kinds.specs.Outcomes.{rule, firstOf, Outcome, gives, refuses, after, following}
 use Rattle.kinds.specs.Slices.{cut}
 use Rattle.coded.specs.declared.coded_type.DiagCodedType.{DiagCodedType}
-use Rattle.field.specs.Refusals.{describedRefusal}
-use Rattle.record.specs.declared.parsing.OptionalCoded.{OptionalCoded}
-use Rattle.record.specs.declared.parsing.OptionalCoded.the-variants as coded
-use Rattle.record.specs.Numbers.{be16, numbersOf}
-use Rattle.record.specs.Parsing.{codedOf}
+use Rattle.field.specs.Refusals.{descriptionRefusal}
+use Rattle.record.specs.Numbers.{be16, recordSize}
+use Rattle.record.specs.Parsing.{codedIn}
+use Rattle.record.specs.Calls.{wellFormed}
 use Rattle.table.specs.declared.Header.{Header}
 use Rattle.table.specs.declared.OptionalHeader.{OptionalHeader}
 use Rattle.table.specs.declared.OptionalHeader.the-variants as header
@@ -29,8 +28,11 @@ abbrev pub saidBy : List ℕ → Header
 saidBy table = record { count = be16 table 5; «store_len» = be16 table 7 }
 
 -- a header of 9 bytes, 16-byte records, the store
+abbrev pub headerSize : ℕ
+headerSize = 9
+
 abbrev pub recordPlace : ℕ → ℕ
-recordPlace number = 9 + 16 * number
+recordPlace number = headerSize + recordSize * number
 
 abbrev pub totalSize : Header → ℕ
 totalSize h = recordPlace (h .count) + h .«store_len»
@@ -38,7 +40,7 @@ totalSize h = recordPlace (h .count) + h .«store_len»
 -- 45: mark, version or total size wrong, count above 1,024, store length above 32,768
 abbrev pub isWrong : List ℕ → Header → Bool
 isWrong table h =
-    ltb (length table) 9
+    ltb (length table) headerSize
     || not (isMarked table)
     || ltb 1024 (h .count)
     || ltb 32768 (h .«store_len»)
@@ -52,26 +54,23 @@ abbrev pub entry : Header → ℕ → DiagCodedType → Entry
 entry h number t =
     record { «coded_type» = t; «record_at» = recordPlace number; «store_at» = recordPlace (h .count); «store_len» = h .«store_len» }
 
--- 42 of a malformed record or its part outside the store, then 12, 13, 10, 11
-abbrev pub entryOf : Header → ℕ → OptionalCoded → Outcome Entry
-entryOf h number (coded.Coded t) = unless (describedRefusal t (h .«store_len»)) (entry h number t)
-entryOf h number coded.Malformed = refuses 42
-
--- 42 of an absent record; that record alone is looked at
+-- 42 of an absent record, of a malformed one and of its part outside the store, then 12, 13, 10, 11; that record alone is looked at
 abbrev pub recordFetched : List ℕ → Header → ℕ → Outcome Entry
 recordFetched table h number =
-    cond (leb (h .count) number) (refuses 42)
-    (entryOf h number (codedOf (numbersOf (cut (recordPlace number) 16 table))))
+    after (firstOf (rule (leb (h .count) number) MalformedRecord ∷ []))
+    (following (wellFormed (codedIn (cut (recordPlace number) recordSize table)))
+    (λ t. after (descriptionRefusal t (h .«store_len»)) (gives (entry h number t))))
 
+-- 45
 abbrev pub fetchedUnder : List ℕ → ℕ → OptionalHeader → Outcome Entry
 fetchedUnder table number (header.Valid h) = recordFetched table h number
-fetchedUnder table number header.Malformed = refuses 45
+fetchedUnder table number header.Malformed = refuses MalformedTable
 
 -- 43, 45, then the record's own
 unfoldable pub fetched : List ℕ → ℕ → Outcome Entry
-fetched table number = cond (ltb 65535 (length table)) (refuses 43) (fetchedUnder table number (headerOf table))
+fetched table number = after (firstOf (rule (ltb 65535 (length table)) SliceTooLong ∷ [])) (fetchedUnder table number (headerOf table))
 
--- the answers of the code, with the paper's numbers
-abbrev pub outcomeOf : Fetched → Outcome Entry
-outcomeOf (fetch.Found e) = gives e
-outcomeOf (fetch.Refused r) = refuses (numberOf r)
+-- the answers of the code
+abbrev pub outcomeOfFetched : Fetched → Outcome Entry
+outcomeOfFetched (fetch.Found e) = gives e
+outcomeOfFetched (fetch.Refused r) = refuses r

@@ -1,14 +1,18 @@
 // The stored table: its header, and a record fetched by its number.
 ghost use mathlib.Core.Path.{_≡_};
-ghost use Prim.Native.Nat.{_+_, _*_, _≤_};
+ghost use Prim.Native.Nat.{_≤_};
 ghost use lib.ListN.{length};
-ghost use Rattle.table.specs.Table.{isMarked, headerOf, recordFetched, fetched, outcomeOf};
+ghost use Rattle.table.specs.Table.{headerSize, recordPlace, totalSize, isMarked, headerOf, recordFetched, fetched, outcomeOfFetched};
 use coded::DiagCodedType;
 use kinds::Check;
 use kinds::Refusal;
 use record::OptionalCoded;
+use record::RECORD_SIZE;
 use record::parse;
 use record::read16;
+
+// The bytes of a header.
+const HEADER_SIZE: usize = 9;
 
 // What the header says: how many records there are, and how many bytes the store has.
 pub struct Header {
@@ -34,9 +38,17 @@ pub enum Fetched {
     Refused(Refusal),
 }
 
+// Where the record with a number starts, and behind the last one the store.
+fn record_place(number: usize) -> usize
+    requires { ⌜ number ≤ 65535 ⌝ }
+    ensures { λ r. ⌜ r ≡ recordPlace number ⌝ }
+{
+    HEADER_SIZE + RECORD_SIZE * number
+}
+
 // The mark `DCT`, and version 1.
 fn is_marked(table: &[u8]) -> bool
-    requires { ⌜ 9 ≤ length (now table) ⌝ }
+    requires { ⌜ headerSize ≤ length (now table) ⌝ }
     ensures { λ r. ⌜ r ≡ isMarked (now (table .entry)) ⌝ }
 {
     if table[0] != 0x44 {
@@ -56,7 +68,7 @@ fn read_header(table: &[u8]) -> OptionalHeader
     requires { ⌜ length (now table) ≤ 65535 ⌝ }
     ensures { λ r. ⌜ r ≡ headerOf (now (table .entry)) ⌝ }
 {
-    if table.len() < 9 {
+    if table.len() < HEADER_SIZE {
         return OptionalHeader::Malformed;
     }
     if !is_marked(table) {
@@ -70,7 +82,7 @@ fn read_header(table: &[u8]) -> OptionalHeader
     if 32768 < store_len {
         return OptionalHeader::Malformed;
     }
-    let total = 9 + 16 * count + store_len;
+    let total = record_place(count) + store_len;
     if table.len() != total {
         return OptionalHeader::Malformed;
     }
@@ -79,17 +91,17 @@ fn read_header(table: &[u8]) -> OptionalHeader
 
 // 42 of a record that is absent or malformed or has its part outside the store, then 12, 13, 10 and 11.
 fn fetch_record(table: &[u8], header: Header, number: usize) -> Fetched
-    requires { ⌜ 9 + 16 * header .count + header .«store_len» ≡ length (now table) ⌝ }
+    requires { ⌜ totalSize header ≡ length (now table) ⌝ }
     requires { ⌜ length (now table) ≤ 65535 ⌝ }
-    ensures { λ r. ⌜ outcomeOf r ≡ recordFetched (now (table .entry)) header number ⌝ }
+    ensures { λ r. ⌜ outcomeOfFetched r ≡ recordFetched (now (table .entry)) header number ⌝ }
 {
     let count = header.count;
     let store_len = header.store_len;
     if count <= number {
         return Fetched::Refused(Refusal::MalformedRecord);
     }
-    let record_at = 9 + 16 * number;
-    let end = record_at + 16;
+    let record_at = record_place(number);
+    let end = record_at + RECORD_SIZE;
     match parse(&table[record_at..end]) {
         OptionalCoded::Malformed => Fetched::Refused(Refusal::MalformedRecord),
         OptionalCoded::Coded(coded_type) => {
@@ -98,7 +110,7 @@ fn fetch_record(table: &[u8], header: Header, number: usize) -> Fetched
                 Check::Passed => Fetched::Found(Entry {
                     coded_type,
                     record_at,
-                    store_at: 9 + 16 * count,
+                    store_at: record_place(count),
                     store_len,
                 }),
             }
@@ -108,7 +120,7 @@ fn fetch_record(table: &[u8], header: Header, number: usize) -> Fetched
 
 // The record with a number, from 0. The header is checked, and that record alone.
 pub fn fetch(table: &[u8], number: usize) -> Fetched
-    ensures { λ r. ⌜ outcomeOf r ≡ fetched (now (table .entry)) number ⌝ }
+    ensures { λ r. ⌜ outcomeOfFetched r ≡ fetched (now (table .entry)) number ⌝ }
 {
     if 65535 < table.len() {
         return Fetched::Refused(Refusal::SliceTooLong);

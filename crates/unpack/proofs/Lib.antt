@@ -1,3 +1,3 @@
--- `Answers` has a law for each way to an answer, and `Sizes` how many bytes are taken.
-pub mod Answers
+-- `Rooms` has the answer with room and without, and `Sizes` how many bytes are taken.
+pub mod Rooms
 pub mod Sizes

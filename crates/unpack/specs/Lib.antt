@@ -1,3 +1,3 @@
--- `Answers` has what a reading answers, and `Unpacked` what is taken from a field's bytes.
-pub mod Answers
+-- `Found` has what a reading finds and answers, and `Unpacked` what is taken from a field's bytes.
+pub mod Found
 pub mod Unpacked

@@ -3,21 +3,23 @@ use Prim.Native.Nat.{ℕ, _+_, _*_}
 use mathlib.Core.List.{List, [], _∷_}
 use lib.ListN.{length}
 use lib.Dec.{ltb}
-use Rattle.kinds.specs.Rules.{rule, firstOf}
+use Rattle.kinds.specs.declared.refusals.Refusal.the-variants.{BitPositionAboveSeven, BitsPastCut}
+use Rattle.kinds.specs.declared.refusals.Check.{Check}
+use Rattle.kinds.specs.Outcomes.{rule, firstOf, Outcome, gives, after}
 use Rattle.bits.specs.Bits.{bitAt}
 use Rattle.bits.specs.Moves.{from, extracted}
 use Rattle.masks.specs.declared.plain.Kept.the-variants.{UnderOnes}
 use Rattle.masks.specs.Mask.{Mask, noMask, plainMask, condensedMask}
 use Rattle.masks.specs.Plain.{masked}
 use Rattle.condensed.specs.Condensed.{condensedCount, condensed}
-use Rattle.unpack.specs.Answers.{Finding}
+use Rattle.unpack.specs.Found.{Found, found}
 
 -- 26: bit position above 7; 27: bit position + length above 8 x cut bytes
-abbrev pub unpackRefusal : ℕ → ℕ → ℕ → ℕ
+abbrev pub unpackRefusal : ℕ → ℕ → ℕ → Check
 unpackRefusal len pos n =
     firstOf
-    (rule (ltb 7 pos) 26
-    ∷ rule (ltb (8 * n) (pos + len)) 27
+    (rule (ltb 7 pos) BitPositionAboveSeven
+    ∷ rule (ltb (8 * n) (pos + len)) BitsPastCut
     ∷ [])
 
 -- the bit count
@@ -32,12 +34,9 @@ unpacked noMask len pos xs = extracted len pos xs
 unpacked (plainMask mask) len pos xs = masked UnderOnes len pos mask (extracted len pos xs)
 unpacked (condensedMask mask) len pos xs = condensed mask len (from pos (bitAt xs))
 
+abbrev pub unpackedFound : Mask → ℕ → ℕ → List ℕ → Found
+unpackedFound mask len pos xs = found (bitCount mask len) (unpacked mask len pos xs)
+
 -- what is found in a cut of ordered bytes
-abbrev pub inCut : Mask → ℕ → ℕ → List ℕ → Finding
-inCut mask len pos xs =
-    record {
-      number = unpackRefusal len pos (length xs);
-      expected = 0;
-      bits = bitCount mask len;
-      bytes = unpacked mask len pos xs;
-    }
+abbrev pub foundIn : Mask → ℕ → ℕ → List ℕ → Outcome Found
+foundIn mask len pos xs = after (unpackRefusal len pos (length xs)) (gives (unpackedFound mask len pos xs))

@@ -5,8 +5,10 @@ ghost use lib.ListN.{length};
 ghost use Rattle.kinds.specs.Types.{bytesFor};
 ghost use Rattle.order.specs.Order.{ordered};
 ghost use Rattle.masks.specs.Mask.{condensedMask, maskOf, plainIf};
-ghost use Rattle.unpack.specs.Answers.{answer, answered};
-ghost use Rattle.unpack.specs.Unpacked.{unpacked, inCut};
+ghost use Rattle.kinds.specs.Answers.{reportOfReading};
+ghost use Rattle.kinds.specs.Outcomes.{gives, answer};
+ghost use Rattle.unpack.specs.Found.{readAnswer};
+ghost use Rattle.unpack.specs.Unpacked.{unpacked, unpackedFound, foundIn};
 use kinds::BitLength;
 use kinds::ByteOrder;
 use kinds::Reading;
@@ -49,7 +51,7 @@ fn unpack_bits(
     requires { ⌜ length (now «data») ≤ 65535 ⌝ }
     requires { ⌜ «bit_pos» ≤ 7 ⌝ }
     requires { ⌜ «bit_pos» + «bit_len» .0 ≤ 8 * length (now «data») ⌝ }
-    ensures { λ r. ⌜ answered r (now (output .exit)) ≡ answer (inCut (plainIf masked (now (mask .entry))) («bit_len» .0) «bit_pos» (ordered «byte_order» (now («data» .entry)))) 0 (now (output .entry)) ⌝ }
+    ensures { λ r. ⌜ answer (reportOfReading r) (now (output .exit)) ≡ readAnswer (now (output .entry)) (gives (unpackedFound (plainIf masked (now (mask .entry))) («bit_len» .0) «bit_pos» (ordered «byte_order» (now («data» .entry))))) ⌝ }
 {
     let byte_count = bit_len.byte_count();
     let count = byte_count.bytes();
@@ -84,7 +86,7 @@ fn apply_condensed_mask_unpacking(
     requires { ⌜ length (now «data») ≤ 65535 ⌝ }
     requires { ⌜ «bit_pos» ≤ 7 ⌝ }
     requires { ⌜ «bit_pos» + «bit_len» .0 ≤ 8 * length (now «data») ⌝ }
-    ensures { λ r. ⌜ answered r (now (output .exit)) ≡ answer (inCut (condensedMask (now (mask .entry))) («bit_len» .0) «bit_pos» (ordered «byte_order» (now («data» .entry)))) 0 (now (output .entry)) ⌝ }
+    ensures { λ r. ⌜ answer (reportOfReading r) (now (output .exit)) ≡ readAnswer (now (output .entry)) (gives (unpackedFound (condensedMask (now (mask .entry))) («bit_len» .0) «bit_pos» (ordered «byte_order» (now («data» .entry))))) ⌝ }
 {
     let size = condensed::condensed_size(mask, bit_len);
     let byte_count = size.byte_count;
@@ -118,7 +120,7 @@ pub fn unpack_data(
 ) -> Reading
     requires { ⌜ length (now mask) ≤ 65535 ⌝ }
     requires { ⌜ length (now «data») ≤ 65535 ⌝ }
-    ensures { λ r. ⌜ answered r (now (output .exit)) ≡ answer (inCut (maskOf «mask_use» (now (mask .entry))) («bit_len» .0) «bit_pos» (ordered «byte_order» (now («data» .entry)))) 0 (now (output .entry)) ⌝ }
+    ensures { λ r. ⌜ answer (reportOfReading r) (now (output .exit)) ≡ readAnswer (now (output .entry)) (foundIn (maskOf «mask_use» (now (mask .entry))) («bit_len» .0) «bit_pos» (ordered «byte_order» (now («data» .entry)))) ⌝ }
 {
     if 7 < bit_pos {
         return Reading::Refused(Refusal::BitPositionAboveSeven);

@@ -6,26 +6,23 @@ use Prim.Native.Nat.{ℕ}
 use lib.ListN.{length}
 use lib.Count.{ones, onesIn}
 use Rattle.kinds.proofs.Examples.{Example, hold, _is_}
-use Rattle.kinds.specs.Answers.{read, wrote, refused, short}
+use Rattle.kinds.specs.Answers.{numbered, read, wrote, short}
+use Rattle.kinds.specs.Outcomes.{Answer}
 use Rattle.order.specs.Order.{ordered, swapPairs}
 use Rattle.bits.specs.Bits.{bit, bitAt, number, packed}
 use Rattle.bits.specs.Moves.{extracted, injected, overlaid}
 use Rattle.masks.specs.Plain.{maskBit}
 use Rattle.condensed.specs.Condensed.{frontBit, gathered, onesOf, condensed, onesBelow, replacement, replaced}
-use Rattle.unpack.specs.Answers.{answer}
+use Rattle.unpack.specs.Found.{readAnswer}
 use Rattle.unpack.specs.Unpacked.{unpacked}
 use Rattle.length_field.specs.Leading.{leadingCount}
-use Rattle.readers.specs.Finding.{fieldFinding, leadingFinding}
-use Rattle.decode.specs.Decode.{decoded}
-use Rattle.decode.specs.Runtime.{listed}
+use Rattle.readers.specs.Finding.{bitsFinding, leadingFinding}
 use Rattle.pack.specs.Source.{standardBits}
 use Rattle.cutout.specs.CutOut.{cleared, readied}
-use Rattle.payload.specs.Answers.{Payload, payloadOf}
+use Rattle.payload.specs.Payload.{Payload, payloadOf}
 use Rattle.payload.specs.Writing.{spliced, inCutOut, grown, writing}
-use Rattle.encode.specs.Encode.{encoded}
 use Rattle.record.specs.Parsing.{codedOf}
-use Rattle.record.specs.Calls.{describedBy}
-use Rattle.dct.specs.Boundary.{Seen, byRecordDecoded, byRecordEncoded}
+use Rattle.calls.specs.Calls.{byRecord, decoded, encoded}
 
 -- records of UInt32: type, flags, variant, termination, 32-bit bit length, 32-bit max, and 16-bit place and length of the mask
 abbrev standard : ℕ → ℕ → ℕ → List ℕ
@@ -49,33 +46,33 @@ abbrev leading : ℕ → List ℕ
 leading bits = 7 ∷ 1 ∷ 1 ∷ 0 ∷ 0 ∷ 0 ∷ 0 ∷ bits ∷ 0 ∷ 0 ∷ 0 ∷ 0 ∷ 0 ∷ 0 ∷ 0 ∷ 0 ∷ []
 
 -- a decode at byte 0 and a bit position into four bytes EE: the five numbers, and then the output
-abbrev seenRead : Seen (List ℕ) → List ℕ
-seenRead s = s .report ++ s .left
+abbrev flatRead : Answer (List ℕ) → List ℕ
+flatRead a = a .report ++ a .left
 
 abbrev reads : List ℕ → List ℕ → List ℕ → ℕ → List ℕ
-reads bytes store payload pos = seenRead (byRecordDecoded bytes store payload 0 pos (0xEE ∷ 0xEE ∷ 0xEE ∷ 0xEE ∷ []))
+reads bytes store payload pos = flatRead (decoded (byRecord bytes) store payload 0 pos (0xEE ∷ 0xEE ∷ 0xEE ∷ 0xEE ∷ []))
 
 abbrev gave : ℕ → ℕ → List ℕ → List ℕ
-gave bits size output = listed (read bits size) ++ output
+gave bits size output = read bits size ++ output
 
 abbrev refuses : ℕ → List ℕ
-refuses n = listed (refused n) ++ (0xEE ∷ 0xEE ∷ 0xEE ∷ 0xEE ∷ [])
+refuses n = numbered n ++ (0xEE ∷ 0xEE ∷ 0xEE ∷ 0xEE ∷ [])
 
 abbrev tooShort : ℕ → ℕ → List ℕ
-tooShort expected actual = listed (short expected actual) ++ (0xEE ∷ 0xEE ∷ 0xEE ∷ 0xEE ∷ [])
+tooShort expected actual = short expected actual ++ (0xEE ∷ 0xEE ∷ 0xEE ∷ 0xEE ∷ [])
 
 -- an encode on a payload that is used whole: the five numbers, the used length, and then the payload
-abbrev seenWritten : Seen Payload → List ℕ
-seenWritten s = s .report ++ (s .left .used ∷ s .left .bytes)
+abbrev flatWritten : Answer Payload → List ℕ
+flatWritten a = a .report ++ (a .left .used ∷ a .left .bytes)
 
 abbrev writes : List ℕ → List ℕ → List ℕ → List ℕ → ℕ → List ℕ
-writes bytes store input on pos = seenWritten (byRecordEncoded bytes store input (payloadOf on (length on)) 0 pos)
+writes bytes store input on pos = flatWritten (encoded (byRecord bytes) store input (payloadOf on (length on)) 0 pos)
 
 abbrev leaves : List ℕ → List ℕ
-leaves payload = listed wrote ++ (length payload ∷ payload)
+leaves payload = wrote ++ (length payload ∷ payload)
 
 abbrev leavesRefused : ℕ → List ℕ → List ℕ
-leavesRefused n payload = listed (refused n) ++ (length payload ∷ payload)
+leavesRefused n payload = numbered n ++ (length payload ∷ payload)
 
 unfoldable pub starred : List Example
 starred =
@@ -108,5 +105,5 @@ starred =
     ∷ []
 
 pub starred-hold : hold starred ≡ true
-unfolding starred byRecordDecoded byRecordEncoded describedBy codedOf decoded encoded answer fieldFinding leadingFinding unpacked leadingCount ordered swapPairs bit bitAt number packed extracted injected overlaid maskBit frontBit gathered onesOf ones onesIn condensed onesBelow replacement replaced standardBits cleared readied spliced inCutOut grown writing
+unfolding starred codedOf decoded encoded readAnswer bitsFinding leadingFinding unpacked leadingCount ordered swapPairs bit bitAt number packed extracted injected overlaid maskBit frontBit gathered onesOf ones onesIn condensed onesBelow replacement replaced standardBits cleared readied spliced inCutOut grown writing
 starred-hold = refl

@@ -1,4 +1,7 @@
--- `Bench` has the bench cases that are proved, `Stored` examples of records and tables, and `Worked` examples of encode and clear.
+-- `Bench` has the bench cases that are proved, `Readings` and `Writes` the other cases and corners beside them, by `Descriptions` of coded
+-- types, and `Stored` examples of records and tables.
+pub mod Descriptions
 pub mod Bench
 pub mod Stored
-pub mod Worked
+pub mod Readings
+pub mod Writes

@@ -3,24 +3,25 @@ use mathlib.Core.Path.{_≡_, refl}
 use mathlib.Core.Bool.{true}
 use mathlib.Core.List.{List, [], _∷_, _++_}
 use Prim.Native.Nat.{ℕ}
-use lib.ListN.{getD, set, replicate}
+use lib.ListN.{set, replicate}
 use Rattle.kinds.proofs.Examples.{Example, hold, _is_}
-use Rattle.decode.specs.Runtime.{runtimeRead}
+use Rattle.kinds.specs.Answers.{numberIn}
+use Rattle.kinds.specs.Outcomes.{Answer}
 use Rattle.record.specs.Parsing.{codedOf}
-use Rattle.record.specs.Calls.{describedBy}
 use Rattle.table.specs.Table.{fetched}
-use Rattle.dct.specs.Boundary.{Seen, byRecordRead, placesFetched}
+use Rattle.calls.specs.Calls.{byRecord, runtimeRead}
+use Rattle.dct.specs.Boundary.{placesFetched}
 
 -- type, flags, variant, termination; 32-bit bit length or min; 32-bit max; 16-bit place and length
 abbrev record16 : ℕ → ℕ → ℕ → ℕ → ℕ → ℕ → ℕ → ℕ → List ℕ
 record16 type flags variant termination length most at size = type ∷ flags ∷ variant ∷ termination ∷ 0 ∷ 0 ∷ 0 ∷ length ∷ 0 ∷ 0 ∷ 0 ∷ most ∷ 0 ∷ at ∷ 0 ∷ size ∷ []
 
 -- what a read of no bytes says of a record with a store of four bytes: every refusal up to 11, and no other
-abbrev seenNumber : Seen ℕ → List ℕ
-seenNumber s = getD (s .report) 0 0 ∷ []
+abbrev numberOnly : Answer (List ℕ) → List ℕ
+numberOnly a = numberIn (a .report) ∷ []
 
 abbrev under : List ℕ → List ℕ → List ℕ → List ℕ
-under store payload bytes = seenNumber (byRecordRead bytes store payload 0 0)
+under store payload bytes = numberOnly (runtimeRead (byRecord bytes) store payload 0 0)
 
 abbrev asked : List ℕ → List ℕ
 asked bytes = under (0 ∷ 0 ∷ 0 ∷ 0 ∷ []) [] bytes
@@ -34,6 +35,10 @@ refused n = n ∷ []
 -- a table of two records with a store of two bytes, the second record malformed
 abbrev table : List ℕ
 table = 0x44 ∷ 0x43 ∷ 0x54 ∷ 0 ∷ 1 ∷ 0 ∷ 2 ∷ 0 ∷ 2 ∷ record16 2 3 3 0 8 0 1 1 ++ (record16 0 0 0 0 0 0 0 0 ++ (0xF0 ∷ 0x0F ∷ []))
+
+-- what a fetch leaves, with its number in front
+abbrev fetches : List ℕ → ℕ → List ℕ
+fetches s number = numberIn (placesFetched s number .report) ∷ placesFetched s number .left
 
 abbrev places : ℕ → ℕ → ℕ → List ℕ
 places at store size = 0 ∷ at ∷ store ∷ size ∷ []
@@ -97,26 +102,26 @@ examples =
     ∷ (asked (record16 2 0 1 0 8 0 0 0) is refused 10)
     ∷ (asked (record16 6 8 2 1 1 2 0 0) is refused 11)
     -- the table: that record alone is looked at
-    ∷ (placesFetched table 0 is places 9 41 2)
-    ∷ (placesFetched table 1 is noPlaces 42)
-    ∷ (placesFetched table 2 is noPlaces 42)
-    ∷ (placesFetched table 0xFFFFFFFFFFFFFFFF is noPlaces 42)
+    ∷ (fetches table 0 is places 9 41 2)
+    ∷ (fetches table 1 is noPlaces 42)
+    ∷ (fetches table 2 is noPlaces 42)
+    ∷ (fetches table 0xFFFFFFFFFFFFFFFF is noPlaces 42)
     -- a part outside the store, a numeric type that looks for its end
-    ∷ (placesFetched (set table 22 2) 0 is noPlaces 42)
-    ∷ (placesFetched (set (set (set (set table 11 1) 10 1) 22 0) 24 0) 0 is noPlaces 10)
+    ∷ (fetches (set table 22 2) 0 is noPlaces 42)
+    ∷ (fetches (set (set (set (set table 11 1) 10 1) 22 0) 24 0) 0 is noPlaces 10)
     -- 45: mark, version, count, store length, total size
-    ∷ (placesFetched [] 0 is noPlaces 45)
-    ∷ (placesFetched (0x44 ∷ 0x43 ∷ 0x54 ∷ 0 ∷ 1 ∷ 0 ∷ 0 ∷ 0 ∷ []) 0 is noPlaces 45)
-    ∷ (placesFetched (0x44 ∷ 0x43 ∷ 0x54 ∷ 0 ∷ 1 ∷ 0 ∷ 0 ∷ 0 ∷ 0 ∷ []) 0 is noPlaces 42)
-    ∷ (placesFetched (set table 2 0) 0 is noPlaces 45)
-    ∷ (placesFetched (set table 4 2) 0 is noPlaces 45)
-    ∷ (placesFetched (set table 6 1) 0 is noPlaces 45)
-    ∷ (placesFetched (table ++ (0 ∷ [])) 0 is noPlaces 45)
-    ∷ (placesFetched (set (set table 5 4) 6 1 ++ replicate 16368 0) 0 is noPlaces 45)
-    ∷ (placesFetched (set (set table 7 128) 8 1 ++ replicate 32767 0) 0 is noPlaces 45)
-    ∷ (placesFetched (replicate 65536 0) 0 is noPlaces 43)
+    ∷ (fetches [] 0 is noPlaces 45)
+    ∷ (fetches (0x44 ∷ 0x43 ∷ 0x54 ∷ 0 ∷ 1 ∷ 0 ∷ 0 ∷ 0 ∷ []) 0 is noPlaces 45)
+    ∷ (fetches (0x44 ∷ 0x43 ∷ 0x54 ∷ 0 ∷ 1 ∷ 0 ∷ 0 ∷ 0 ∷ 0 ∷ []) 0 is noPlaces 42)
+    ∷ (fetches (set table 2 0) 0 is noPlaces 45)
+    ∷ (fetches (set table 4 2) 0 is noPlaces 45)
+    ∷ (fetches (set table 6 1) 0 is noPlaces 45)
+    ∷ (fetches (table ++ (0 ∷ [])) 0 is noPlaces 45)
+    ∷ (fetches (set (set table 5 4) 6 1 ++ replicate 16368 0) 0 is noPlaces 45)
+    ∷ (fetches (set (set table 7 128) 8 1 ++ replicate 32767 0) 0 is noPlaces 45)
+    ∷ (fetches (replicate 65536 0) 0 is noPlaces 43)
     ∷ []
 
 all-hold : hold examples ≡ true
-unfolding examples byRecordRead describedBy codedOf runtimeRead fetched placesFetched
+unfolding examples codedOf runtimeRead fetched placesFetched
 all-hold = refl

@@ -1,4 +1,4 @@
-// What each variant writes, after what it refuses: its source, put into the payload.
+// Encode of a field: what each variant writes, after what it refuses.
 mod variants; // variants.rt: each variant's writing
 
-pub use variants::encode_variant;
+pub use variants::encode_field;

@@ -3,16 +3,17 @@ ghost use mathlib.Core.Path.{_≡_};
 ghost use mathlib.Core.Bool.{cond};
 ghost use Prim.Native.Nat.{_^_, _<_, _≤_};
 ghost use lib.ListN.{length};
-ghost use Rattle.masks.specs.Mask.{noMask};
-ghost use Rattle.field.specs.Field.{maskIn, shapeOf};
+ghost use Rattle.masks.specs.Mask.{noMask, maskOf};
+ghost use Rattle.field.specs.Field.{field};
 ghost use Rattle.pack.specs.Source.{bytesSource, terminated};
-ghost use Rattle.pack.specs.Packing.{packedSource};
-ghost use Rattle.payload.specs.Answers.{payloadOf, answered};
+ghost use Rattle.pack.specs.CodePacking.{packedSource};
+ghost use Rattle.kinds.specs.Answers.{reportOfWriting};
+ghost use Rattle.kinds.specs.Outcomes.{answer};
+ghost use Rattle.payload.specs.Payload.{payloadOf, writeAnswer};
 ghost use Rattle.payload.specs.Writing.{writing};
-ghost use Rattle.writers.specs.Shapes.{standardEncoded, leadingEncoded, minMaxEncoded, paramEncoded, shapeEncoded};
-use coded::DiagCodedTypeVariant;
-use coded::StandardLengthType;
+ghost use Rattle.writers.specs.Shapes.{standardEncoded, leadingEncoded, minMaxEncoded, paramEncoded, shapeEncoded, encodeOf};
 use coded::Termination;
+use field::Shape;
 use kinds::BitLength;
 use kinds::ByteCount;
 use kinds::ByteOrder;
@@ -20,7 +21,7 @@ use kinds::Check;
 use kinds::DataType;
 use kinds::Refusal;
 use kinds::Writing;
-use lengths::counted_use;
+use lengths::effective_use;
 use lengths::validate_leading_length;
 use lengths::validate_standard;
 use masks::MaskUse;
@@ -28,8 +29,9 @@ use pack::Packing;
 
 fn encode_standard_len(
     base_datatype: DataType,
-    standard: StandardLengthType,
-    store: &[u8],
+    bit_len: BitLength,
+    described_use: MaskUse,
+    mask: &[u8],
     input: &[u8],
     byte_order: ByteOrder,
     payload: &mut [u8],
@@ -37,20 +39,16 @@ fn encode_standard_len(
     byte_pos: usize,
     bit_pos: usize,
 ) -> Writing
-    requires { ⌜ length (now store) ≤ 65535 ⌝ }
+    requires { ⌜ length (now mask) ≤ 65535 ⌝ }
     requires { ⌜ length (now input) ≤ 65535 ⌝ }
     requires { ⌜ length (now payload) ≤ 65535 ⌝ }
     requires { ⌜ now used ≤ length (now payload) ⌝ }
-    ensures { λ r. ⌜ answered r (payloadOf (now (payload .exit)) (now (used .exit))) ≡ standardEncoded «byte_order» (now (input .entry)) (payloadOf (now (payload .entry)) (now (used .entry))) «byte_pos» «bit_pos» «base_datatype» (standard .«bit_length» .0) (maskIn (now (store .entry)) standard) ⌝ }
+    ensures { λ r. ⌜ answer (reportOfWriting r) (payloadOf (now (payload .exit)) (now (used .exit))) ≡ writeAnswer (payloadOf (now (payload .entry)) (now (used .entry))) (standardEncoded «byte_order» (now (input .entry)) (payloadOf (now (payload .entry)) (now (used .entry))) «byte_pos» «bit_pos» «base_datatype» («bit_len» .0) (maskOf «described_use» (now (mask .entry)))) ⌝ }
 {
-    let bit_len = standard.bit_length;
-    let bit_mask = standard.bit_mask;
-    let described = field::mask_use(bit_mask, standard.condensed);
-    let mask = field::placed_part(store, bit_mask);
-    match validate_standard(base_datatype, bit_len, described, mask) {
+    match validate_standard(base_datatype, bit_len, described_use, mask) {
         Check::Refused(refusal) => Writing::Refused(refusal),
         Check::Passed => {
-            let mask_use = counted_use(described, mask);
+            let mask_use = effective_use(described_use, mask);
             let byte_type = base_datatype.is_byte_type();
             let packing = pack::pack_data(bit_len, mask_use, mask, input.len(), byte_type);
             let data_len = packing.data_len;
@@ -83,7 +81,7 @@ fn write_bytes(
     requires { ⌜ packing .«tail_len» < 2 ^ 32 ⌝ }
     requires { ⌜ length (now payload) ≤ 65535 ⌝ }
     requires { ⌜ now used ≤ length (now payload) ⌝ }
-    ensures { λ r. ⌜ answered r (payloadOf (now (payload .exit)) (now (used .exit))) ≡ writing «byte_order» (packedSource packing noMask (now (input .entry))) (payloadOf (now (payload .entry)) (now (used .entry))) «byte_pos» «bit_pos» ⌝ }
+    ensures { λ r. ⌜ answer (reportOfWriting r) (payloadOf (now (payload .exit)) (now (used .exit))) ≡ writeAnswer (payloadOf (now (payload .entry)) (now (used .entry))) (writing «byte_order» (packedSource packing noMask (now (input .entry))) (payloadOf (now (payload .entry)) (now (used .entry))) «byte_pos» «bit_pos») ⌝ }
 {
     let no_mask = &input[..0];
     payload::write_source(
@@ -112,7 +110,7 @@ fn encode_leading_length(
     requires { ⌜ length (now input) ≤ 65535 ⌝ }
     requires { ⌜ length (now payload) ≤ 65535 ⌝ }
     requires { ⌜ now used ≤ length (now payload) ⌝ }
-    ensures { λ r. ⌜ answered r (payloadOf (now (payload .exit)) (now (used .exit))) ≡ leadingEncoded «byte_order» (now (input .entry)) (payloadOf (now (payload .entry)) (now (used .entry))) «byte_pos» «bit_pos» («bit_len» .0) ⌝ }
+    ensures { λ r. ⌜ answer (reportOfWriting r) (payloadOf (now (payload .exit)) (now (used .exit))) ≡ writeAnswer (payloadOf (now (payload .entry)) (now (used .entry))) (leadingEncoded «byte_order» (now (input .entry)) (payloadOf (now (payload .entry)) (now (used .entry))) «byte_pos» «bit_pos» («bit_len» .0)) ⌝ }
 {
     match validate_leading_length(bit_len, input.len()) {
         Check::Refused(refusal) => Writing::Refused(refusal),
@@ -140,7 +138,7 @@ fn write_terminated(
     requires { ⌜ length (now input) ≤ 65535 ⌝ }
     requires { ⌜ length (now payload) ≤ 65535 ⌝ }
     requires { ⌜ now used ≤ length (now payload) ⌝ }
-    ensures { λ r. ⌜ answered r (payloadOf (now (payload .exit)) (now (used .exit))) ≡ writing «byte_order» (bytesSource (terminated (now (input .entry)) «tail_len» tail)) (payloadOf (now (payload .entry)) (now (used .entry))) «byte_pos» «bit_pos» ⌝ }
+    ensures { λ r. ⌜ answer (reportOfWriting r) (payloadOf (now (payload .exit)) (now (used .exit))) ≡ writeAnswer (payloadOf (now (payload .entry)) (now (used .entry))) (writing «byte_order» (bytesSource (terminated (now (input .entry)) «tail_len» tail)) (payloadOf (now (payload .entry)) (now (used .entry))) «byte_pos» «bit_pos») ⌝ }
 {
     let data_len = input.len();
     let total = data_len + tail_len;
@@ -171,7 +169,7 @@ fn encode_min_max_len(
     requires { ⌜ length (now input) ≤ 65535 ⌝ }
     requires { ⌜ length (now payload) ≤ 65535 ⌝ }
     requires { ⌜ now used ≤ length (now payload) ⌝ }
-    ensures { λ r. ⌜ answered r (payloadOf (now (payload .exit)) (now (used .exit))) ≡ minMaxEncoded «byte_order» (now (input .entry)) (payloadOf (now (payload .entry)) (now (used .entry))) «byte_pos» «bit_pos» «is_unicode» termination ⌝ }
+    ensures { λ r. ⌜ answer (reportOfWriting r) (payloadOf (now (payload .exit)) (now (used .exit))) ≡ writeAnswer (payloadOf (now (payload .entry)) (now (used .entry))) (minMaxEncoded «byte_order» (now (input .entry)) (payloadOf (now (payload .entry)) (now (used .entry))) «byte_pos» «bit_pos» «is_unicode» termination) ⌝ }
 {
     let count = terminator_len(is_unicode);
     match termination {
@@ -215,7 +213,7 @@ fn encode_param_len(
     requires { ⌜ length (now input) ≤ 65535 ⌝ }
     requires { ⌜ length (now payload) ≤ 65535 ⌝ }
     requires { ⌜ now used ≤ length (now payload) ⌝ }
-    ensures { λ r. ⌜ answered r (payloadOf (now (payload .exit)) (now (used .exit))) ≡ paramEncoded «byte_order» (now (input .entry)) (payloadOf (now (payload .entry)) (now (used .entry))) «byte_pos» «bit_pos» ⌝ }
+    ensures { λ r. ⌜ answer (reportOfWriting r) (payloadOf (now (payload .exit)) (now (used .exit))) ≡ writeAnswer (payloadOf (now (payload .entry)) (now (used .entry))) (paramEncoded «byte_order» (now (input .entry)) (payloadOf (now (payload .entry)) (now (used .entry))) «byte_pos» «bit_pos») ⌝ }
 {
     if input.len() == 0 {
         return Writing::Written;
@@ -223,28 +221,29 @@ fn encode_param_len(
     write_terminated(0, 0, input, byte_order, payload, used, byte_pos, bit_pos)
 }
 
-pub fn encode_variant(
+fn encode_shape(
     base_datatype: DataType,
-    type_: DiagCodedTypeVariant,
-    store: &[u8],
-    input: &[u8],
     byte_order: ByteOrder,
+    shape: Shape,
+    mask_use: MaskUse,
+    mask: &[u8],
+    input: &[u8],
     payload: &mut [u8],
     used: &mut usize,
     byte_pos: usize,
     bit_pos: usize,
 ) -> Writing
-    requires { ⌜ length (now store) ≤ 65535 ⌝ }
+    requires { ⌜ length (now mask) ≤ 65535 ⌝ }
     requires { ⌜ length (now input) ≤ 65535 ⌝ }
     requires { ⌜ length (now payload) ≤ 65535 ⌝ }
     requires { ⌜ now used ≤ length (now payload) ⌝ }
-    ensures { λ r. ⌜ answered r (payloadOf (now (payload .exit)) (now (used .exit))) ≡ shapeEncoded «byte_order» (now (input .entry)) (payloadOf (now (payload .entry)) (now (used .entry))) «byte_pos» «bit_pos» «base_datatype» (shapeOf (now (store .entry)) «type_») ⌝ }
+    ensures { λ r. ⌜ answer (reportOfWriting r) (payloadOf (now (payload .exit)) (now (used .exit))) ≡ writeAnswer (payloadOf (now (payload .entry)) (now (used .entry))) (shapeEncoded «byte_order» (now (input .entry)) (payloadOf (now (payload .entry)) (now (used .entry))) «byte_pos» «bit_pos» «base_datatype» shape (maskOf «mask_use» (now (mask .entry)))) ⌝ }
 {
-    match type_ {
-        DiagCodedTypeVariant::LeadingLengthInfo(bits) => {
+    match shape {
+        Shape::Leading(bits) => {
             encode_leading_length(bits, input, byte_order, payload, used, byte_pos, bit_pos)
         }
-        DiagCodedTypeVariant::MinMaxLength(limits) => {
+        Shape::MinMax(limits) => {
             let termination = limits.termination;
             encode_min_max_len(
                 base_datatype.is_unicode(),
@@ -257,10 +256,11 @@ pub fn encode_variant(
                 bit_pos,
             )
         }
-        DiagCodedTypeVariant::StandardLength(standard) => encode_standard_len(
+        Shape::Standard(bits) => encode_standard_len(
             base_datatype,
-            standard,
-            store,
+            bits,
+            mask_use,
+            mask,
             input,
             byte_order,
             payload,
@@ -268,8 +268,43 @@ pub fn encode_variant(
             byte_pos,
             bit_pos,
         ),
-        DiagCodedTypeVariant::ParamLengthInfo(_) => {
-            encode_param_len(input, byte_order, payload, used, byte_pos, bit_pos)
-        }
+        Shape::Param => encode_param_len(input, byte_order, payload, used, byte_pos, bit_pos),
+    }
+}
+
+// Writes the input as a field at a byte position and a bit position of the payload, of which `used` bytes are used. The
+// payload grows in its slice where the field ends past them.
+pub fn encode_field(
+    base_datatype: DataType,
+    byte_order: ByteOrder,
+    shape: Shape,
+    mask_use: MaskUse,
+    mask: &[u8],
+    input: &[u8],
+    payload: &mut [u8],
+    used: &mut usize,
+    byte_pos: usize,
+    bit_pos: usize,
+) -> Writing
+    requires { ⌜ length (now mask) ≤ 65535 ⌝ }
+    requires { ⌜ length (now input) ≤ 65535 ⌝ }
+    requires { ⌜ length (now payload) ≤ 65535 ⌝ }
+    requires { ⌜ now used ≤ length (now payload) ⌝ }
+    ensures { λ r. ⌜ answer (reportOfWriting r) (payloadOf (now (payload .exit)) (now (used .exit))) ≡ encodeOf (field «base_datatype» «byte_order» shape (maskOf «mask_use» (now (mask .entry)))) (now (input .entry)) (payloadOf (now (payload .entry)) (now (used .entry))) «byte_pos» «bit_pos» ⌝ }
+{
+    match base_datatype.validate_bit_pos(bit_pos) {
+        Check::Refused(refusal) => Writing::Refused(refusal),
+        Check::Passed => encode_shape(
+            base_datatype,
+            byte_order,
+            shape,
+            mask_use,
+            mask,
+            input,
+            payload,
+            used,
+            byte_pos,
+            bit_pos,
+        ),
     }
 }

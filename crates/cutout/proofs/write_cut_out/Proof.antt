@@ -1,6 +1,6 @@
 -- `cutout::write_cut_out` meets its contract.
 use Rattle.masks.specs.Mask.{maskOf}
-use Rattle.pack.specs.Packing.{packedSource}
+use Rattle.pack.specs.CodePacking.{packedSource}
 use Rattle.cutout.specs.CutOut.{put}
 use Rattle.cutout.proofs.Puts.{turned-back}
 use borrow.Author.Needs.{needs}

@@ -1,8 +1,11 @@
 -- `dct::dct_fetch` meets its contract.
-use mathlib.Core.Path.{ap, _∙_}
-use mathlib.Core.List.{[], _∷_}
-use Prim.Native.Nat.{ℕ}
 use Rattle.dct.specs.Boundary.{placesOf, placesFetched}
+use Rattle.table.specs.declared.Entry.{Entry}
+use Rattle.kinds.specs.Outcomes.{Outcome, answer, concluded}
+use Rattle.kinds.specs.Answers.{wrote, numbered}
+use Prim.Native.Nat.{ℕ}
+use mathlib.Core.List.{[], _∷_}
+use mathlib.Core.Path.{ap, _∙_}
 use borrow.Author.Needs.{needs}
 use Rattle.dct.proofs.dct_fetch.Statement.{statement}
 use Rattle.dct.proofs.dct_fetch.Tie as tie
@@ -21,13 +24,11 @@ enum-known-entry c = search needs
 
 returns : tie.Need-returns
 unfolding placesFetched
-returns c = let r = c .before .before .before .refusal .given in
-    ap (λ (n : ℕ). n ∷ 0 ∷ 0 ∷ 0 ∷ []) (c .number .ensures) ∙ ap placesOf (rw (r .1) at (c .before .before .before .before .before .fetch .ensures))
+returns c = ap (λ (n : ℕ). answer (numbered n) (0 ∷ 0 ∷ 0 ∷ [])) (c .number .ensures) ∙ ap (concluded (0 ∷ 0 ∷ 0 ∷ []) (λ (e : Entry). answer wrote (placesOf e))) (rw (c .before .before .before .refusal .given .1) at (c .before .before .before .before .before .fetch .ensures))
 
 returns-2 : tie.Need-returns-2
 unfolding placesFetched
-returns-2 c = let e = c .before .before .entry .given in
-    ap placesOf (rw (e .1) at (c .before .before .before .before .fetch .ensures))
+returns-2 c = ap (concluded (0 ∷ 0 ∷ 0 ∷ []) (λ (e : Entry). answer wrote (placesOf e))) (rw (c .before .before .entry .given .1) at (c .before .before .before .before .fetch .ensures))
 
 pub dct-fetch-spec : {M : Type 1} → statement M
 dct-fetch-spec =

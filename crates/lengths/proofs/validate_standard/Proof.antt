@@ -2,7 +2,6 @@
 use borrow.Author.Tests.{le-ltb}
 use native.Mathlib.Omega.{arith}
 use mathlib.Core.Path.{sym}
-use Rattle.kinds.proofs.Refused.{handed-on}
 use borrow.Author.Needs.{needs}
 use Rattle.lengths.proofs.validate_standard.Statement.{statement}
 use Rattle.lengths.proofs.validate_standard.Tie as tie
@@ -29,7 +28,7 @@ validate-condensed-requires : tie.Need-validate-condensed-requires
 validate-condensed-requires c κs = search needs
 
 returns : tie.Need-returns
-returns c = handed-on (c .before .refusal .given .0 .0) _ (rw (c .before .refusal .given .1) at (c .before .before .before .validate-bit-len .ensures))
+returns c = rw (sym (c .before .before .before .validate-bit-len .ensures), c .before .refusal .given .1)
 
 returns-2 : tie.Need-returns-2
 returns-2 c = rw (sym (c .before .before .before .before .validate-bit-len .ensures), c .before .before .enum-told .given .1, c .enum-told2 .given .1, le-ltb (c .before .before .before .before .before .before .args .bit-len .0) 0 (omega arith))

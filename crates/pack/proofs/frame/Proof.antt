@@ -1,7 +1,7 @@
 -- `pack::frame` meets its contract.
 use Prim.Native.Nat.{ℕ}
 use mathlib.Core.Path.{ap}
-use Rattle.pack.specs.Packing.{framing}
+use Rattle.pack.specs.CodePacking.{framing}
 use borrow.Author.Needs.{needs}
 use Rattle.pack.proofs.frame.Statement.{statement}
 use Rattle.pack.proofs.frame.Tie as tie

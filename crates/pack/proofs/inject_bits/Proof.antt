@@ -7,7 +7,7 @@ use borrow.Author.Needs.{needs}
 use Rattle.bits.specs.Moves.{injected}
 use Rattle.bits.proofs.Steps.{injected-none, injected-step}
 use Rattle.masks.specs.Mask.{plainIf}
-use Rattle.pack.specs.Packing.{packedBitsUnder}
+use Rattle.pack.specs.CodePacking.{packedBitsUnder}
 use Rattle.pack.proofs.Packed.{bits-packed}
 use Rattle.pack.proofs.inject_bits.Statement.{statement}
 use Rattle.pack.proofs.inject_bits.Tie as tie

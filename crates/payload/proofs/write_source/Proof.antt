@@ -1,25 +1,24 @@
 -- `payload::write_source` meets its contract.
-use native.Mathlib.Omega.{arith}
+use mathlib.Core.Path.{sym}
+use borrow.Author.Tests.{lt-ltb, le-ltb}
 use Rattle.masks.specs.Mask.{maskOf}
-use Rattle.pack.specs.Packing.{packedSource}
-use Rattle.payload.proofs.Ways.{write-26, write-40}
+use Rattle.pack.specs.CodePacking.{packedSource}
+use Rattle.payload.specs.Writing.{writing}
 use Rattle.payload.proofs.Written.{written-by}
 use borrow.Author.Needs.{needs}
 use Rattle.payload.proofs.write_source.Statement.{statement}
 use Rattle.payload.proofs.write_source.Tie as tie
 
 returns : tie.Need-returns
-returns c = let s = c .before .before .before .before in
-    let source = packedSource (s .args .packing) (maskOf (s .args .mask-use) (s .args .mask .now)) (s .args .«data» .now) in
-    write-26 (s .args .byte-order) source (s .args .uds-payload .now) (s .args .used .now) (s .args .byte-pos) (s .args .bit-pos) (c .if1 .taken)
+unfolding writing
+returns c = rw (lt-ltb 7 _ (c .if1 .taken))
 
 cut-end-requires : tie.Need-cut-end-requires
 cut-end-requires c κs = search needs
 
 returns-2 : tie.Need-returns-2
-returns-2 c = let s = c .before .before .before .before .before .before .before in
-    let source = packedSource (s .args .packing) (maskOf (s .args .mask-use) (s .args .mask .now)) (s .args .«data» .now) in
-    write-40 (s .args .byte-order) source (s .args .uds-payload .now) (s .args .used .now) (s .args .byte-pos) (s .args .bit-pos) (c .before .before .before .if1 .left) (omega arith)
+unfolding writing
+returns-2 c = rw (le-ltb 7 _ (c .before .before .before .if1 .left), sym (c .before .cut-end .ensures), lt-ltb _ _ (c .if2 .taken))
 
 grow-requires : tie.Need-grow-requires
 grow-requires c κs = search needs

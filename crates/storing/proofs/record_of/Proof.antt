@@ -6,11 +6,14 @@ use Prim.Native.Nat.{ℕ, _≤_, _<_}
 use native.Mathlib.Omega.{arith}
 use borrow.Author.Tests.{lt-ltb, le-ltb}
 use borrow.Author.Needs.{needs}
+use Rattle.kinds.specs.declared.refusals.Refusal.the-variants.{MalformedRecord}
+use Rattle.kinds.specs.Answers.{refused, wrote}
+use Rattle.kinds.specs.Outcomes.{answer}
 use Rattle.coded.specs.declared.variants.DiagCodedTypeVariant.{DiagCodedTypeVariant}
 use Rattle.coded.specs.declared.variants.DiagCodedTypeVariant.the-variants.{LeadingLengthInfo, MinMaxLength, StandardLength, ParamLengthInfo}
 use Rattle.coded.specs.declared.coded_type.DiagCodedType.{DiagCodedType}
 use Rattle.record.specs.declared.numbers.Numbers.{Numbers}
-use Rattle.storing.specs.Storing.{variantNumbers, numbersFor, bytesOf, stored, storedRecord}
+use Rattle.storing.specs.Storing.{variantNumbers, numbersFor, bytesOf, storedRecord}
 use Rattle.storing.proofs.record_of.Statement.{statement}
 use Rattle.storing.proofs.record_of.Tie as tie
 
@@ -27,15 +30,15 @@ module _ {n : Numbers} (t : DiagCodedType) where
 
   -- the three ways through the storing
   module _ (old : List ℕ) (e : n ≡ numbersFor t) where
-    past-at : 65535 < n .place .at → stored 42 old ≡ storedRecord t old
+    past-at : 65535 < n .place .at → answer (refused MalformedRecord) old ≡ storedRecord t old
     unfolding storedRecord
     past-at h = rw (sym e, lt-ltb _ _ h)
 
-    past-len : n .place .at ≤ 65535 → 65535 < n .place .len → stored 42 old ≡ storedRecord t old
+    past-len : n .place .at ≤ 65535 → 65535 < n .place .len → answer (refused MalformedRecord) old ≡ storedRecord t old
     unfolding storedRecord
     past-len a h = rw (sym e, le-ltb _ _ a, lt-ltb _ _ h)
 
-    written : n .place .at ≤ 65535 → n .place .len ≤ 65535 → stored 0 (bytesOf n) ≡ storedRecord t old
+    written : n .place .at ≤ 65535 → n .place .len ≤ 65535 → answer wrote (bytesOf n) ≡ storedRecord t old
     unfolding storedRecord
     written a h = rw (sym e, le-ltb _ _ a, le-ltb _ _ h)
 

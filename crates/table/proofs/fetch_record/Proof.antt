@@ -1,7 +1,6 @@
 -- `table::fetch_record` meets its contract.
-use native.Mathlib.Nat.{add-sub-cancel-left}
-use Rattle.kinds.proofs.Refused.{never-0}
 use borrow.Author.Tests.{le-leb, lt-leb}
+use native.Mathlib.Nat.{add-sub-cancel-left}
 use borrow.Author.Needs.{needs}
 use Rattle.table.proofs.fetch_record.Statement.{statement}
 use Rattle.table.proofs.fetch_record.Tie as tie
@@ -9,11 +8,8 @@ use Rattle.table.proofs.fetch_record.Tie as tie
 returns : tie.Need-returns
 returns c = simp (le-leb _ _ (c .if1 .taken))
 
-mul-record-at : tie.Need-mul-record-at
-mul-record-at c = search needs
-
-add-record-at : tie.Need-add-record-at
-add-record-at c = search needs
+record-place-requires : tie.Need-record-place-requires
+record-place-requires c κs = search needs
 
 add-end : tie.Need-add-end
 add-end c = search needs
@@ -45,29 +41,24 @@ enum-known-refusal c = search needs
 enum-told-2 : tie.Need-enum-told-2
 enum-told-2 c = search needs
 
-mul-t21 : tie.Need-mul-t21
-mul-t21 c = search needs
-
-add-t22 : tie.Need-add-t22
-add-t22 c = search needs
+record-place-requires-2 : tie.Need-record-place-requires-2
+record-place-requires-2 c κs = search needs
 
 returns-2 : tie.Need-returns-2
-returns-2 c = simp (lt-leb _ _ (c .before .before .before .before .if1 .left), ← (simp add-sub-cancel-left at (c .before .before .parse .ensures)), c .enum-told .given .1)
+returns-2 c = simp (lt-leb _ _ (c .before .before .before .before .before .if1 .left), ← (c .before .before .before .before .record-place .ensures), ← (simp add-sub-cancel-left at (c .before .before .parse .ensures)), c .enum-told .given .1)
 
 returns-3 : tie.Need-returns-3
-returns-3 c = let r = c .before .refusal .given in
-    simp (lt-leb _ _ (c .before .before .before .before .before .before .before .before .before .if1 .left), ← (simp add-sub-cancel-left at (c .before .before .before .before .before .before .before .parse .ensures)), c .before .before .before .before .before .coded-type .given .1, ← (c .before .before .before .validate-description .ensures), r .1, never-0 (r .0 .0))
+returns-3 c = simp (lt-leb _ _ (c .before .before .before .before .before .before .before .before .before .before .if1 .left), ← (c .before .before .before .before .before .before .before .before .before .record-place .ensures), ← (simp add-sub-cancel-left at (c .before .before .before .before .before .before .before .parse .ensures)), c .before .before .before .before .before .coded-type .given .1, ← (c .before .before .before .validate-description .ensures), c .before .refusal .given .1)
 
 returns-4 : tie.Need-returns-4
-returns-4 c = simp (lt-leb _ _ (c .before .before .before .before .before .before .before .before .if1 .left), ← (simp add-sub-cancel-left at (c .before .before .before .before .before .before .parse .ensures)), c .before .before .before .before .coded-type .given .1, ← (c .before .before .validate-description .ensures), c .enum-told2 .given .1)
+returns-4 c = simp (lt-leb _ _ (c .before .before .before .before .before .before .before .before .before .before .if1 .left), c .record-place2 .ensures, ← (c .before .before .before .before .before .before .before .before .before .record-place .ensures), ← (simp add-sub-cancel-left at (c .before .before .before .before .before .before .before .parse .ensures)), c .before .before .before .before .before .coded-type .given .1, ← (c .before .before .before .validate-description .ensures), c .before .enum-told2 .given .1)
 
 pub fetch-record-spec : {M : Type 1} → statement M
 fetch-record-spec =
     tie.close
     (tie.spec
     returns
-    mul-record-at
-    add-record-at
+    record-place-requires
     add-end
     sub-parse
     part-parse-start
@@ -78,8 +69,7 @@ fetch-record-spec =
     validate-description-requires
     enum-known-refusal
     enum-told-2
-    mul-t21
-    add-t22
+    record-place-requires-2
     returns-2
     returns-3
     returns-4)

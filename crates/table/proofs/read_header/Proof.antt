@@ -1,6 +1,6 @@
 -- `table::read_header` meets its contract.
-use mathlib.Core.Path.{sym, _∙_}
 use borrow.Author.Tests.{eq-eqb, ne-eqb, lt-ltb, le-ltb, not-true, not-false}
+use mathlib.Core.Path.{sym, _∙_}
 use borrow.Author.Needs.{needs}
 use Rattle.table.proofs.read_header.Statement.{statement}
 use Rattle.table.proofs.read_header.Tie as tie
@@ -32,20 +32,17 @@ returns-3 c = simp (le-ltb _ _ (c .before .before .before .before .before .if1 .
 returns-4 : tie.Need-returns-4
 returns-4 c = simp (le-ltb _ _ (c .before .before .before .before .before .before .if1 .left), sym (c .before .before .before .before .before .is-marked .ensures) ∙ not-false _ (c .before .before .before .before .if2 .left), ← (c .before .before .before .read16 .ensures .0), le-ltb _ _ (c .before .if3 .left), ← (c .before .before .read162 .ensures .0), lt-ltb _ _ (c .if4 .taken))
 
-mul-total : tie.Need-mul-total
-mul-total c = search needs
+record-place-requires : tie.Need-record-place-requires
+record-place-requires c κs = search needs
 
 add-total : tie.Need-add-total
 add-total c = search needs
 
-add-total-2 : tie.Need-add-total-2
-add-total-2 c = search needs
-
 returns-5 : tie.Need-returns-5
-returns-5 c = simp (le-ltb _ _ (c .before .before .before .before .before .before .before .if1 .left), sym (c .before .before .before .before .before .before .is-marked .ensures) ∙ not-false _ (c .before .before .before .before .before .if2 .left), ← (c .before .before .before .before .read16 .ensures .0), le-ltb _ _ (c .before .before .if3 .left), ← (c .before .before .before .read162 .ensures .0), le-ltb _ _ (c .before .if4 .left), ne-eqb _ _ (c .if5 .taken))
+returns-5 c = simp (le-ltb _ _ (c .before .before .before .before .before .before .before .before .if1 .left), sym (c .before .before .before .before .before .before .before .is-marked .ensures) ∙ not-false _ (c .before .before .before .before .before .before .if2 .left), ← (c .before .before .before .before .before .read16 .ensures .0), le-ltb _ _ (c .before .before .before .if3 .left), ← (c .before .before .before .before .read162 .ensures .0), le-ltb _ _ (c .before .before .if4 .left), ← (c .before .record-place .ensures), ne-eqb _ _ (c .if5 .taken))
 
 returns-6 : tie.Need-returns-6
-returns-6 c = simp (le-ltb _ _ (c .before .before .before .before .before .before .before .if1 .left), sym (c .before .before .before .before .before .before .is-marked .ensures) ∙ not-false _ (c .before .before .before .before .before .if2 .left), ← (c .before .before .before .before .read16 .ensures .0), le-ltb _ _ (c .before .before .if3 .left), ← (c .before .before .before .read162 .ensures .0), le-ltb _ _ (c .before .if4 .left), eq-eqb _ _ (c .if5 .left))
+returns-6 c = simp (le-ltb _ _ (c .before .before .before .before .before .before .before .before .if1 .left), sym (c .before .before .before .before .before .before .before .is-marked .ensures) ∙ not-false _ (c .before .before .before .before .before .before .if2 .left), ← (c .before .before .before .before .before .read16 .ensures .0), le-ltb _ _ (c .before .before .before .if3 .left), ← (c .before .before .before .before .read162 .ensures .0), le-ltb _ _ (c .before .before .if4 .left), ← (c .before .record-place .ensures), eq-eqb _ _ (c .if5 .left))
 
 pub read-header-spec : {M : Type 1} → statement M
 read-header-spec =
@@ -60,8 +57,7 @@ read-header-spec =
     cast-store-len
     returns-3
     returns-4
-    mul-total
+    record-place-requires
     add-total
-    add-total-2
     returns-5
     returns-6)

@@ -4,8 +4,8 @@ use lib.Seq.{length-take-le}
 use Rattle.order.specs.Order.{ordered}
 use Rattle.masks.specs.Mask.{condensedMask}
 use Rattle.condensed.specs.Condensed.{condensedBytes}
-use Rattle.unpack.specs.Unpacked.{inCut}
-use Rattle.unpack.proofs.Answers.{fits-ordered, lacks-room, has-room, by-room}
+use Rattle.unpack.specs.Unpacked.{unpackedFound}
+use Rattle.unpack.proofs.Rooms.{lacks-room, has-room-by}
 use Rattle.unpack.proofs.Sizes.{length-condensed-field, gathered-is}
 use borrow.Author.Needs.{needs}
 use Rattle.unpack.proofs.apply_condensed_mask_unpacking.Statement.{statement}
@@ -24,7 +24,7 @@ bytes-requires c κs = search needs
 returns : tie.Need-returns
 returns c = let s = c .before .before .before .before .before .before .before in
     sym
-    (lacks-room _ 0 (s .args .output .now) (fits-ordered (s .args .byte-order) (s .args .«data» .now) _ _ (s .pre .1 .1 .0) (s .pre .1 .1 .1)) (c .before .bytes .result)
+    (lacks-room _ (s .args .output .now) (c .before .bytes .result)
     (length-condensed-field (s .args .mask .now) (s .args .bit-len .0) (s .args .bit-pos) (ordered (s .args .byte-order) (s .args .«data» .now)) ∙ sym (size (c .before))) (c .if1 .taken))
 
 slice-relend-prefix-gather-bits : tie.Need-slice-relend-prefix-gather-bits
@@ -43,10 +43,10 @@ returns-2 : tie.Need-returns-2
 returns-2 c = let s = c .before .before .before .before .before .before .before .before .before .before .before .before in
     let n = c .before .before .before .before .before .before .bytes in
     let room = c .before .before .before .before .before .if1 .left in
-    by-room _ _ (s .args .output .now) (n .result) _ _ _ (n .ensures) (sym (c .before .before .before .before .before .before .before .before .condensed-size .ensures .0))
-    (c .before .before .before .gather-bits .ensures .1 ∙ gathered-is (s .args .mask .now) (s .args .bit-len .0) (s .args .bit-pos) (ordered (s .args .byte-order) (s .args .«data» .now)) _ (length-take-le (n .result) (s .args .output .now) room ∙ size (c .before .before .before .before .before .before)))
-    (has-room (inCut (condensedMask (s .args .mask .now)) (s .args .bit-len .0) (s .args .bit-pos) (ordered (s .args .byte-order) (s .args .«data» .now))) 0 (s .args .output .now) (fits-ordered (s .args .byte-order) (s .args .«data» .now) _ _ (s .pre .1 .1 .0) (s .pre .1 .1 .1)) (n .result)
-    (length-condensed-field (s .args .mask .now) (s .args .bit-len .0) (s .args .bit-pos) (ordered (s .args .byte-order) (s .args .«data» .now)) ∙ sym (size (c .before .before .before .before .before .before))) room)
+    let xs = ordered (s .args .byte-order) (s .args .«data» .now) in
+    has-room-by (unpackedFound (condensedMask (s .args .mask .now)) (s .args .bit-len .0) (s .args .bit-pos) xs) (s .args .output .now) (n .result)
+    (length-condensed-field (s .args .mask .now) (s .args .bit-len .0) (s .args .bit-pos) xs ∙ sym (size (c .before .before .before .before .before .before))) room _ _ _ (n .ensures) (sym (c .before .before .before .before .before .before .before .before .condensed-size .ensures .0))
+    (c .before .before .before .gather-bits .ensures .1 ∙ gathered-is (s .args .mask .now) (s .args .bit-len .0) (s .args .bit-pos) xs _ (length-take-le (n .result) (s .args .output .now) room ∙ size (c .before .before .before .before .before .before)))
 
 pub apply-condensed-mask-unpacking-spec : {M : Type 1} → statement M
 apply-condensed-mask-unpacking-spec =

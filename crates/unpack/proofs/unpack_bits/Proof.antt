@@ -4,8 +4,8 @@ use lib.ListN.{length}
 use lib.Seq.{length-take-le}
 use Rattle.order.specs.Order.{ordered}
 use Rattle.masks.specs.Mask.{plainIf}
-use Rattle.unpack.specs.Unpacked.{unpacked, inCut}
-use Rattle.unpack.proofs.Answers.{fits-ordered, lacks-room, has-room, by-room}
+use Rattle.unpack.specs.Unpacked.{unpacked, unpackedFound}
+use Rattle.unpack.proofs.Rooms.{lacks-room, has-room-by}
 use Rattle.unpack.proofs.Sizes.{length-plain, count-plain}
 use borrow.Author.Needs.{needs}
 use Rattle.unpack.proofs.unpack_bits.Statement.{statement}
@@ -24,10 +24,7 @@ bytes-requires : tie.Need-bytes-requires
 bytes-requires c κs = search needs
 
 returns : tie.Need-returns
-returns c = let s = c .before .before .before .before .before .before in
-    sym
-    (lacks-room _ 0 (s .args .output .now) (fits-ordered (s .args .byte-order) (s .args .«data» .now) _ _ (s .pre .1 .0) (s .pre .1 .1)) (c .before .bytes .result)
-    (size (c .before)) (c .if1 .taken))
+returns c = sym (lacks-room _ (c .before .before .before .before .before .before .args .output .now) (c .before .bytes .result) (size (c .before)) (c .if1 .taken))
 
 slice-relend-prefix-extract-kept-bits : tie.Need-slice-relend-prefix-extract-kept-bits
 slice-relend-prefix-extract-kept-bits c = search needs
@@ -45,9 +42,8 @@ same-length c = search needs
 returns-2 : tie.Need-returns-2
 returns-2 c = let s = c .before .before .before .before .before .before .before .before .before .before in
     let n = c .before .before .before .before .before .bytes in
-    let f = inCut (plainIf (s .args .masked) (s .args .mask .now)) (s .args .bit-len .0) (s .args .bit-pos) (ordered (s .args .byte-order) (s .args .«data» .now)) in
-    by-room _ _ (s .args .output .now) (n .result) _ _ _ (n .ensures) (count-plain (s .args .masked) (s .args .mask .now) (s .args .bit-len .0)) (c .before .before .extract-kept-bits .ensures)
-    (has-room f 0 (s .args .output .now) (fits-ordered (s .args .byte-order) (s .args .«data» .now) _ _ (s .pre .1 .0) (s .pre .1 .1)) (n .result) (size (c .before .before .before .before .before)) (c .before .before .before .before .if1 .left))
+    let f = unpackedFound (plainIf (s .args .masked) (s .args .mask .now)) (s .args .bit-len .0) (s .args .bit-pos) (ordered (s .args .byte-order) (s .args .«data» .now)) in
+    has-room-by f (s .args .output .now) (n .result) (size (c .before .before .before .before .before)) (c .before .before .before .before .if1 .left) _ _ _ (n .ensures) (count-plain (s .args .masked) (s .args .mask .now) (s .args .bit-len .0)) (c .before .before .extract-kept-bits .ensures)
 
 pub unpack-bits-spec : {M : Type 1} → statement M
 unpack-bits-spec =

@@ -1,12 +1,13 @@
 -- `validate_min_max` meets its contract.
 use mathlib.Core.Bool.{Bool, true, false, not, _&&_}
 use mathlib.Core.List.{[], _∷_}
-use Prim.Native.Nat.{ℕ}
+use Rattle.kinds.specs.declared.refusals.Refusal.the-variants.{NumericWithVariableLength, OddUnicodeLimits}
+use Rattle.kinds.specs.declared.refusals.Check.{Check}
 use Rattle.kinds.specs.declared.types.DataType.{DataType}
 use Rattle.coded.specs.declared.variants.MinMaxLengthType.{MinMaxLengthType}
 use Rattle.coded.specs.declared.variants.DiagCodedTypeVariant.the-variants.{MinMaxLength}
 use Rattle.kinds.specs.Types.{isByteType, isUnicode}
-use Rattle.kinds.specs.Rules.{rule, firstOf}
+use Rattle.kinds.specs.Outcomes.{rule, firstOf}
 use Rattle.coded.specs.Refusals.{evenLimits, codedTypeRefusal}
 use mathlib.Core.Path.{_≡_, ap, sym, _∙_}
 use borrow.Author.Tests.{not-true, not-false}
@@ -15,8 +16,8 @@ use Rattle.coded.proofs.coded_type.validate_min_max.Statement.{statemen
 use Rattle.coded.proofs.coded_type.validate_min_max.Tie as tie
 
 -- the two rules by the three answers that decide them
-refusal : Bool → Bool → Bool → ℕ
-refusal byte even unicode = firstOf (rule (not byte) 10 ∷ rule (not even && unicode) 11 ∷ [])
+refusal : Bool → Bool → Bool → Check
+refusal byte even unicode = firstOf (rule (not byte) NumericWithVariableLength ∷ rule (not even && unicode) OddUnicodeLimits ∷ [])
 
 module _ (t : DataType) (m : MinMaxLengthType) (b e u : Bool) (p : b ≡ isByteType t) (q : e ≡ evenLimits m) (r : u ≡ isUnicode t) where
   limits : refusal b e u ≡ codedTypeRefusal t (MinMaxLength m)

@@ -1,5 +1,5 @@
 -- `coded::validate_limits` meets its contract.
-use borrow.Author.Tests.{ne-eqb, lt-ltb, le-ltb}
+use borrow.Author.Tests.{eq-eqb, ne-eqb, lt-ltb, le-ltb}
 use borrow.Author.Needs.{needs}
 use Rattle.coded.proofs.variants.validate_limits.Statement.{statement}
 use Rattle.coded.proofs.variants.validate_limits.Tie as tie
@@ -8,7 +8,7 @@ enum-known-max-length : tie.Need-enum-known-max-length
 enum-known-max-length c = search needs
 
 returns : tie.Need-returns
-returns c = search needs
+returns c = rw (c .before .before .max-length .given .1, eq-eqb _ _ (c .if1 .taken))
 
 returns-2 : tie.Need-returns-2
 returns-2 c = rw (c .before .before .before .max-length .given .1, ne-eqb _ _ (c .before .if1 .left), lt-ltb _ _ (c .if2 .taken))

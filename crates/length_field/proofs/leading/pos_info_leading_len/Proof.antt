@@ -1,15 +1,15 @@
 -- `length_field::pos_info_leading_len` meets its contract.
-use mathlib.Core.Path.{_≡_, sym}
+use mathlib.Core.Path.{_≡_, sym, _∙_}
+use Rattle.kinds.specs.declared.refusals.Check.the-variants.{Passed}
 use native.Mathlib.Omega.{arith}
 use Rattle.kinds.specs.Refusals.{bitLengthRefusal}
-use Rattle.length_field.proofs.LengthField.{some-bits, no-length}
+use Rattle.length_field.proofs.LengthField.{some-bits}
 use borrow.Author.Needs.{needs}
 use Rattle.length_field.proofs.leading.pos_info_leading_len.Statement.{statement}
 use Rattle.length_field.proofs.leading.pos_info_leading_len.Tie as tie
 
--- no number is given where the check passed
-passed : (c : tie.After-enum-told) → bitLengthRefusal (c .before .before .before .before .args .base-datatype) (c .before .before .before .before .args .bits .0) ≡ 0
-passed c = rw (c .enum-told .given .1) at (sym (c .before .before .validate-bit-len .ensures))
+passed : (c : tie.After-enum-told) → bitLengthRefusal (c .before .before .before .before .args .base-datatype) (c .before .before .before .before .args .bits .0) ≡ Passed
+passed c = sym (c .before .before .validate-bit-len .ensures) ∙ c .enum-told .given .1
 
 validate-bit-len-requires : tie.Need-validate-bit-len-requires
 validate-bit-len-requires c κs = search needs
@@ -24,8 +24,7 @@ behind-length-field-requires : tie.Need-behind-length-field-requires
 behind-length-field-requires c κs = let s = c .before .before .before .before in (omega arith, some-bits (s .args .base-datatype) _ (passed c))
 
 returns : tie.Need-returns
-returns c = let s = c .before .before .before .before .before in
-    no-length (s .args .byte-order) (s .args .bits .0) (s .args .uds-payload .now) (s .args .byte-pos) (s .args .base-datatype) (c .before .refusal .given .0 .0) (rw (c .before .refusal .given .1) at (c .before .before .before .validate-bit-len .ensures))
+returns c = rw (sym (c .before .before .before .validate-bit-len .ensures), c .before .refusal .given .1)
 
 returns-2 : tie.Need-returns-2
 returns-2 c = rw (passed (c .before)) (c .behind-length-field .ensures)

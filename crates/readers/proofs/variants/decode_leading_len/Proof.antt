@@ -1,8 +1,10 @@
 -- `readers::decode_leading_len` meets its contract.
 use mathlib.Core.Path.{ap, _∙_}
 use Rattle.masks.specs.Mask.{noMask}
-use Rattle.positions.specs.Located.{Located}
-use Rattle.readers.specs.Located.{readAt}
+use Rattle.kinds.specs.Outcomes.{Outcome}
+use Rattle.kinds.specs.CodePlaces.{Span}
+use Rattle.unpack.specs.Found.{readAnswer}
+use Rattle.readers.specs.CodeReading.{readAt}
 use Rattle.readers.proofs.Findings.{leading-read}
 use borrow.Author.Needs.{needs}
 use Rattle.readers.proofs.variants.decode_leading_len.Statement.{statement}
@@ -20,8 +22,9 @@ same-length c = search needs
 returns : tie.Need-returns
 returns c = let s = c .before .before .before .before .before .before .before in
     c .before .before .unpack-data-bytes .ensures
-    ∙ ap (λ (l : Located). readAt l (s .args .byte-order) noMask (s .args .payload .now) 0 (s .args .output .now)) (c .before .before .before .before .pos-info-leading-len .ensures)
-    ∙ leading-read (s .args .base-datatype) (s .args .byte-order) (s .args .bits .0) (s .args .payload .now) (s .args .byte-pos) (s .pre) (λ j. c .before .before .before .before .before .before .shared-slice-known .given j .fits) (s .args .output .now)
+    ∙ ap (readAnswer (s .args .output .now))
+    (ap (λ (l : Outcome Span). readAt l (s .args .byte-order) noMask (s .args .payload .now) 0) (c .before .before .before .before .pos-info-leading-len .ensures)
+    ∙ leading-read (s .args .base-datatype) (s .args .byte-order) (s .args .payload .now) (s .args .byte-pos) (s .pre) (λ j. c .before .before .before .before .before .before .shared-slice-known .given j .fits) (s .args .bits .0))
 
 pub decode-leading-len-spec : {M : Type 1} → statement M
 decode-leading-len-spec =

@@ -2,9 +2,11 @@
 use mathlib.Core.Path.{ap, _∙_}
 use mathlib.Core.Bool.{Bool}
 use Rattle.masks.specs.Mask.{noMask}
-use Rattle.positions.specs.Located.{Located}
+use Rattle.kinds.specs.Outcomes.{Outcome}
+use Rattle.kinds.specs.CodePlaces.{Span}
+use Rattle.unpack.specs.Found.{readAnswer}
 use Rattle.scans.specs.MinMax.{minMaxPlace}
-use Rattle.readers.specs.Located.{readAt}
+use Rattle.readers.specs.CodeReading.{readAt}
 use Rattle.readers.proofs.Findings.{min-max-read}
 use borrow.Author.Needs.{needs}
 use Rattle.readers.proofs.variants.decode_min_max_len.Statement.{statement}
@@ -25,9 +27,10 @@ same-length c = search needs
 returns : tie.Need-returns
 returns c = let s = c .before .before .before .before .before .before .before .before in
     c .before .before .unpack-data-bytes .ensures
-    ∙ ap (λ (l : Located). readAt l (s .args .byte-order) noMask (s .args .payload .now) 0 (s .args .output .now))
+    ∙ ap (readAnswer (s .args .output .now))
+    (ap (λ (l : Outcome Span). readAt l (s .args .byte-order) noMask (s .args .payload .now) 0)
     (c .before .before .before .before .pos-info-min-max-len .ensures ∙ ap (λ (u : Bool). minMaxPlace (s .args .limits) u (s .args .payload .now) (s .args .byte-pos)) (c .before .before .before .before .before .is-unicode .ensures))
-    ∙ min-max-read (s .args .base-datatype) (s .args .byte-order) (s .args .limits) (s .args .payload .now) (s .args .byte-pos) (s .pre) (λ j. c .before .before .before .before .before .before .before .shared-slice-known .given j .fits) (s .args .output .now)
+    ∙ min-max-read (s .args .base-datatype) (s .args .byte-order) (s .args .payload .now) (s .args .byte-pos) (s .pre) (λ j. c .before .before .before .before .before .before .before .shared-slice-known .given j .fits) (s .args .limits))
 
 pub decode-min-max-len-spec : {M : Type 1} → statement M
 decode-min-max-len-spec =

@@ -1,9 +1,17 @@
--- `writers::variants::encode_min_max_len` meets its contract.
-use Rattle.payload.specs.Answers.{payloadOf}
-use Rattle.writers.proofs.Writings.{zero-written, hex-ff-written, until-end-written, short-terminator}
+-- `writers::encode_min_max_len` meets its contract.
+use mathlib.Core.Bool.{Bool, true, false, cond}
+use mathlib.Core.Path.{_≡_, sym}
+use mathlib.Core.List.{append-nil}
+use native.Mathlib.Omega.{arith}
+use Prim.Native.Nat.{ℕ, _≤_}
+use borrow.Author.Tests.{ne-eqb}
 use borrow.Author.Needs.{needs}
 use Rattle.writers.proofs.variants.encode_min_max_len.Statement.{statement}
 use Rattle.writers.proofs.variants.encode_min_max_len.Tie as tie
+
+short-terminator : (unicode : Bool) (n : ℕ) → n ≡ cond unicode 2 1 → n ≤ 2
+short-terminator true n e = omega arith
+short-terminator false n e = omega arith
 
 terminator-len-requires : tie.Need-terminator-len-requires
 terminator-len-requires c κs = search needs
@@ -35,22 +43,19 @@ same-length : tie.Need-same-length
 same-length c = search needs
 
 returns-2 : tie.Need-returns-2
-returns-2 c = let s = c .before .before .before .before .before .before .before .before .before .before .before in
-    rw (c .before .before .before .before .before .before .enum-told .given .1) (until-end-written (s .args .byte-order) (s .args .input .now) (payloadOf (s .args .payload .now) (s .args .used .now)) (s .args .byte-pos) (s .args .bit-pos) _ (c .before .before .before .before .before .if1 .left) (c .before .before .write-terminated .ensures) (s .args .is-unicode))
+returns-2 c = rw (c .before .before .before .before .before .before .enum-told .given .1, ne-eqb _ 0 (c .before .before .before .before .before .if1 .left)) (rw append-nil at (c .before .before .write-terminated .ensures))
 
 same-length-2 : tie.Need-same-length-2
 same-length-2 c = search needs
 
 returns-3 : tie.Need-returns-3
-returns-3 c = let s = c .before .before .before .before .before .before .before .before .before .before in
-    rw (c .before .before .before .before .before .enum-told2 .given .1) (zero-written (s .args .byte-order) (s .args .input .now) (payloadOf (s .args .payload .now) (s .args .used .now)) (s .args .byte-pos) (s .args .bit-pos) _ (s .args .is-unicode) (c .before .before .before .before .before .before .before .terminator-len .result) (c .before .before .before .before .before .before .before .terminator-len .ensures) (c .before .before .write-terminated2 .ensures))
+returns-3 c = rw (c .before .before .before .before .before .enum-told2 .given .1, sym (c .before .before .before .before .before .before .before .terminator-len .ensures)) (c .before .before .write-terminated2 .ensures)
 
 same-length-3 : tie.Need-same-length-3
 same-length-3 c = search needs
 
 returns-4 : tie.Need-returns-4
-returns-4 c = let s = c .before .before .before .before .before .before .before .before .before .before in
-    rw (c .before .before .before .before .before .enum-told3 .given .1) (hex-ff-written (s .args .byte-order) (s .args .input .now) (payloadOf (s .args .payload .now) (s .args .used .now)) (s .args .byte-pos) (s .args .bit-pos) _ (s .args .is-unicode) (c .before .before .before .before .before .before .before .terminator-len .result) (c .before .before .before .before .before .before .before .terminator-len .ensures) (c .before .before .write-terminated3 .ensures))
+returns-4 c = rw (c .before .before .before .before .before .enum-told3 .given .1, sym (c .before .before .before .before .before .before .before .terminator-len .ensures)) (c .before .before .write-terminated3 .ensures)
 
 pub encode-min-max-len-spec : {M : Type 1} → statement M
 encode-min-max-len-spec =

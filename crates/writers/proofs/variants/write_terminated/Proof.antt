@@ -1,9 +1,10 @@
--- `writers::variants::write_terminated` meets its contract.
-use mathlib.Core.Path.{ap}
+-- `writers::write_terminated` meets its contract.
+use mathlib.Core.Path.{ap, _∙_}
 use native.Mathlib.Omega.{arith}
 use Rattle.pack.specs.declared.Packing.{Packing}
-use Rattle.payload.specs.Answers.{payloadOf}
-use Rattle.writers.proofs.Writings.{terminated-written}
+use Rattle.pack.proofs.Sources.{terminated-alike}
+use Rattle.payload.specs.Payload.{payloadOf, writeAnswer}
+use Rattle.payload.proofs.Likeness.{writing-alike}
 use borrow.Author.Needs.{needs}
 use Rattle.writers.proofs.variants.write_terminated.Statement.{statement}
 use Rattle.writers.proofs.variants.write_terminated.Tie as tie
@@ -22,7 +23,8 @@ same-length c = search needs
 
 returns : tie.Need-returns
 returns c = let s = c .before .before .before .before .before .before .before .before in
-    terminated-written (s .args .byte-order) (s .args .input .now) (payloadOf (s .args .payload .now) (s .args .used .now)) (s .args .byte-pos) (s .args .bit-pos) _ (s .args .tail-len) (s .args .tail) (c .before .before .before .before .before .frame .result) (c .before .before .before .before .before .frame .ensures) (c .before .before .write-bytes .ensures)
+    let p = payloadOf (s .args .payload .now) (s .args .used .now) in
+    c .before .before .write-bytes .ensures ∙ ap (writeAnswer p) (writing-alike (s .args .byte-order) _ _ (rw (c .before .before .before .before .before .frame .ensures) (terminated-alike (s .args .input .now) (s .args .tail-len) (s .args .tail))) p (s .args .byte-pos) (s .args .bit-pos))
 
 pub write-terminated-spec : {M : Type 1} → statement M
 write-terminated-spec =

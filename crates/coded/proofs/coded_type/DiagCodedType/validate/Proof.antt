@@ -1,6 +1,5 @@
 -- `DiagCodedType::validate` meets its contract.
 use mathlib.Core.Path.{sym}
-use Rattle.kinds.proofs.Refused.{handed-on}
 use borrow.Author.Needs.{needs}
 use Rattle.coded.proofs.coded_type.DiagCodedType.validate.Statement.{statement}
 use Rattle.coded.proofs.coded_type.DiagCodedType.validate.Tie as tie
@@ -18,7 +17,7 @@ validate-requires : tie.Need-validate-requires
 validate-requires c κs = search needs
 
 returns : tie.Need-returns
-returns c = handed-on (c .before .refusal .given .0 .0) _ (rw (c .before .refusal .given .1) at (c .before .before .before .validate-limits .ensures))
+returns c = rw (sym (c .before .before .before .validate-limits .ensures), c .before .refusal .given .1)
 
 returns-2 : tie.Need-returns-2
 returns-2 c = rw (sym (c .before .before .before .validate-limits .ensures), c .before .enum-told .given .1) (c .validate .ensures)

@@ -1,6 +1,5 @@
 -- `MinMaxLengthType::new` meets its contract.
 use mathlib.Core.Path.{sym}
-use Rattle.kinds.proofs.Refused.{none-made}
 use borrow.Author.Needs.{needs}
 use Rattle.coded.proofs.variants.MinMaxLengthType.new.Statement.{statement}
 use Rattle.coded.proofs.variants.MinMaxLengthType.new.Tie as tie
@@ -15,7 +14,7 @@ enum-told : tie.Need-enum-told
 enum-told c = search needs
 
 returns : tie.Need-returns
-returns c = none-made _ (c .before .refusal .given .0 .0) _ (rw (c .before .refusal .given .1) at (c .before .before .before .validate-limits .ensures))
+returns c = rw (sym (c .before .before .before .validate-limits .ensures), c .before .refusal .given .1)
 
 returns-2 : tie.Need-returns-2
 returns-2 c = rw (sym (c .before .before .validate-limits .ensures), c .enum-told .given .1)

@@ -1,0 +1,2 @@
+-- What the calls hand down.
+pub mod Ways

@@ -1,0 +1,57 @@
+-- Document 01, 'Order': the whole answer of each call, by a coded type or by its record. What is refused first is said once, in `called`.
+use Prim.Native.Nat.{ℕ}
+use mathlib.Core.List.{List, []}
+use lib.ListN.{length}
+use Rattle.kinds.specs.Answers.{wrote}
+use Rattle.kinds.specs.Outcomes.{Outcome, gives, after, following, Answer, answer, concluded}
+use Rattle.coded.specs.declared.coded_type.DiagCodedType.{DiagCodedType}
+use Rattle.coded.specs.Getters.{keyNameOf}
+use Rattle.field.specs.Field.{Field, fieldOf, partAt}
+use Rattle.field.specs.Refusals.{slicesRefusal, descriptionRefusal}
+use Rattle.record.specs.Calls.{codedByRecord}
+use Rattle.parts.specs.Part.{runtimePart, partAnswer}
+use Rattle.unpack.specs.Found.{readAnswer}
+use Rattle.readers.specs.Finding.{fieldFinding}
+use Rattle.payload.specs.Payload.{Payload, writeAnswer}
+use Rattle.writers.specs.Shapes.{fieldEncoded}
+use Rattle.clear.specs.Clear.{fieldCleared}
+
+-- what a call is told of its field: a coded type, or the bytes of a record
+pub data Description : Type 0 where
+  byType : DiagCodedType → Description
+  byRecord : List ℕ → Description
+
+-- 43, 44, and 42 of a record: of a call that lends a store and two other slices, and of the last so many bytes are used
+abbrev pub codedBy : Description → ℕ → ℕ → ℕ → ℕ → Outcome DiagCodedType
+codedBy (byType t) store a b used = after (slicesRefusal 0 store a b used) (gives t)
+codedBy (byRecord bytes) store a b used = codedByRecord bytes store a b used
+
+-- 42 of the part of the store, 12, 13, 10, 11, and then the call's own
+abbrev pub described : {A : Type 0} → DiagCodedType → List ℕ → (DiagCodedType → Outcome A) → Outcome A
+described t store own = after (descriptionRefusal t (length store)) (own t)
+
+abbrev pub called : {A : Type 0} → Description → List ℕ → ℕ → ℕ → ℕ → (DiagCodedType → Outcome A) → Outcome A
+called d store a b used own = following (codedBy d (length store) a b used) (λ t. described t store own)
+
+unfoldable pub decoded : Description → List ℕ → List ℕ → ℕ → ℕ → List ℕ → Answer (List ℕ)
+decoded d store payload at pos output =
+    readAnswer output (called d store (length payload) (length output) 0 (λ t. fieldFinding (fieldOf t store) payload at pos))
+
+unfoldable pub encoded : Description → List ℕ → List ℕ → Payload → ℕ → ℕ → Answer Payload
+encoded d store input p at pos =
+    writeAnswer p (called d store (length input) (length (p .bytes)) (p .used) (λ t. fieldEncoded (fieldOf t store) input p at pos))
+
+unfoldable pub clearedField : Description → List ℕ → Payload → ℕ → ℕ → Answer Payload
+clearedField d store p at pos =
+    writeAnswer p (called d store 0 (length (p .bytes)) (p .used) (λ t. fieldCleared (fieldOf t store) p at pos))
+
+-- the read with a byte count given at run time
+unfoldable pub runtimeRead : Description → List ℕ → List ℕ → ℕ → ℕ → Answer (List ℕ)
+runtimeRead d store payload at count = partAnswer (called d store (length payload) 0 0 (λ t. runtimePart payload at count))
+
+-- the name of the parameter that gives a field's length
+abbrev pub nameAnswer : Outcome (List ℕ) → Answer (List ℕ)
+nameAnswer = concluded [] (answer wrote)
+
+unfoldable pub keyName : Description → List ℕ → Answer (List ℕ)
+keyName d store = nameAnswer (called d store 0 0 0 (λ t. gives (partAt store (keyNameOf (t .«type_»)))))

@@ -1,0 +1,2 @@
+-- The whole answer of each call.
+pub mod Calls

@@ -1,0 +1,84 @@
+// Clear, by a coded type and by its record. Masks are parts of the store.
+ghost use mathlib.Core.Path.{_≡_};
+ghost use Prim.Native.Nat.{_≤_};
+ghost use lib.ListN.{length};
+ghost use Rattle.kinds.specs.Answers.{reportOfWriting};
+ghost use Rattle.kinds.specs.Outcomes.{answer};
+ghost use Rattle.field.specs.Field.{fieldOf};
+ghost use Rattle.payload.specs.Payload.{payloadOf, writeAnswer};
+ghost use Rattle.clear.specs.Clear.{fieldCleared};
+ghost use Rattle.calls.specs.Calls.{byType, byRecord, described, clearedField};
+use coded::DiagCodedType;
+use kinds::Check;
+use kinds::Writing;
+use record::Recorded;
+
+// After the slices: what the coded type's own description is refused for, and then the field.
+fn clear_described(
+    coded_type: DiagCodedType,
+    store: &[u8],
+    uds_payload: &mut [u8],
+    used: usize,
+    byte_pos: usize,
+    bit_pos: usize,
+) -> Writing
+    requires { ⌜ length (now store) ≤ 65535 ⌝ }
+    requires { ⌜ length (now «uds_payload») ≤ 65535 ⌝ }
+    requires { ⌜ used ≤ length (now «uds_payload») ⌝ }
+    ensures { λ r. ⌜ answer (reportOfWriting r) (payloadOf (now («uds_payload» .exit)) used) ≡ writeAnswer (payloadOf (now («uds_payload» .entry)) used) (described «coded_type» (now (store .entry)) (λ t. fieldCleared (fieldOf t (now (store .entry))) (payloadOf (now («uds_payload» .entry)) used) «byte_pos» «bit_pos»)) ⌝ }
+{
+    match field::validate_description(coded_type, store.len()) {
+        Check::Refused(refusal) => Writing::Refused(refusal),
+        Check::Passed => {
+            let base_datatype = coded_type.base_datatype;
+            let type_ = coded_type.type_;
+            clear::clear_field(
+                base_datatype,
+                base_datatype.byte_order(coded_type.is_high_low_byte_order),
+                field::shape_of(type_),
+                field::use_of(type_),
+                field::store_part(store, type_),
+                uds_payload,
+                used,
+                byte_pos,
+                bit_pos,
+            )
+        }
+    }
+}
+
+// Takes a numeric field of a given length back to zero: its own bits, and no others.
+pub fn clear(
+    coded_type: DiagCodedType,
+    store: &[u8],
+    uds_payload: &mut [u8],
+    used: usize,
+    byte_pos: usize,
+    bit_pos: usize,
+) -> Writing
+    ensures { λ r. ⌜ answer (reportOfWriting r) (payloadOf (now («uds_payload» .exit)) used) ≡ clearedField (byType «coded_type») (now (store .entry)) (payloadOf (now («uds_payload» .entry)) used) «byte_pos» «bit_pos» ⌝ }
+{
+    match field::validate_slices(0, store.len(), 0, uds_payload.len(), used) {
+        Check::Refused(refusal) => Writing::Refused(refusal),
+        Check::Passed => clear_described(coded_type, store, uds_payload, used, byte_pos, bit_pos),
+    }
+}
+
+// The same of the coded type that a record says.
+pub fn clear_by_record(
+    record: &[u8],
+    store: &[u8],
+    uds_payload: &mut [u8],
+    used: usize,
+    byte_pos: usize,
+    bit_pos: usize,
+) -> Writing
+    ensures { λ r. ⌜ answer (reportOfWriting r) (payloadOf (now («uds_payload» .exit)) used) ≡ clearedField (byRecord (now («record» .entry))) (now (store .entry)) (payloadOf (now («uds_payload» .entry)) used) «byte_pos» «bit_pos» ⌝ }
+{
+    match record::coded_by_record(record, store.len(), 0, uds_payload.len(), used) {
+        Recorded::Refused(refusal) => Writing::Refused(refusal),
+        Recorded::Coded(coded_type) => {
+            clear_described(coded_type, store, uds_payload, used, byte_pos, bit_pos)
+        }
+    }
+}

@@ -1,0 +1,85 @@
+// Decode, by a coded type and by its record. Masks are parts of the store.
+ghost use mathlib.Core.Path.{_≡_};
+ghost use Prim.Native.Nat.{_≤_};
+ghost use lib.ListN.{length};
+ghost use Rattle.kinds.specs.Answers.{reportOfReading};
+ghost use Rattle.kinds.specs.Outcomes.{answer};
+ghost use Rattle.field.specs.Field.{fieldOf};
+ghost use Rattle.unpack.specs.Found.{readAnswer};
+ghost use Rattle.readers.specs.Finding.{fieldFinding};
+ghost use Rattle.calls.specs.Calls.{byType, byRecord, described, decoded};
+use coded::DiagCodedType;
+use kinds::Check;
+use kinds::Reading;
+use record::Recorded;
+
+// After the slices: what the coded type's own description is refused for, and then the field.
+fn decode_described(
+    coded_type: DiagCodedType,
+    store: &[u8],
+    uds_payload: &[u8],
+    byte_pos: usize,
+    bit_pos: usize,
+    output: &mut [u8],
+) -> Reading
+    requires { ⌜ length (now store) ≤ 65535 ⌝ }
+    requires { ⌜ length (now «uds_payload») ≤ 65535 ⌝ }
+    ensures { λ r. ⌜ answer (reportOfReading r) (now (output .exit)) ≡ readAnswer (now (output .entry)) (described «coded_type» (now (store .entry)) (λ t. fieldFinding (fieldOf t (now (store .entry))) (now («uds_payload» .entry)) «byte_pos» «bit_pos»)) ⌝ }
+{
+    match field::validate_description(coded_type, store.len()) {
+        Check::Refused(refusal) => Reading::Refused(refusal),
+        Check::Passed => {
+            let base_datatype = coded_type.base_datatype;
+            let type_ = coded_type.type_;
+            readers::decode_field(
+                base_datatype,
+                base_datatype.byte_order(coded_type.is_high_low_byte_order),
+                field::shape_of(type_),
+                field::use_of(type_),
+                field::store_part(store, type_),
+                uds_payload,
+                byte_pos,
+                bit_pos,
+                output,
+            )
+        }
+    }
+}
+
+// Reads a field at a byte position and a bit position into the output.
+pub fn decode(
+    coded_type: DiagCodedType,
+    store: &[u8],
+    uds_payload: &[u8],
+    byte_pos: usize,
+    bit_pos: usize,
+    output: &mut [u8],
+) -> Reading
+    ensures { λ r. ⌜ answer (reportOfReading r) (now (output .exit)) ≡ decoded (byType «coded_type») (now (store .entry)) (now («uds_payload» .entry)) «byte_pos» «bit_pos» (now (output .entry)) ⌝ }
+{
+    match field::validate_slices(0, store.len(), uds_payload.len(), output.len(), 0) {
+        Check::Refused(refusal) => Reading::Refused(refusal),
+        Check::Passed => {
+            decode_described(coded_type, store, uds_payload, byte_pos, bit_pos, output)
+        }
+    }
+}
+
+// The same of the coded type that a record says.
+pub fn decode_by_record(
+    record: &[u8],
+    store: &[u8],
+    uds_payload: &[u8],
+    byte_pos: usize,
+    bit_pos: usize,
+    output: &mut [u8],
+) -> Reading
+    ensures { λ r. ⌜ answer (reportOfReading r) (now (output .exit)) ≡ decoded (byRecord (now («record» .entry))) (now (store .entry)) (now («uds_payload» .entry)) «byte_pos» «bit_pos» (now (output .entry)) ⌝ }
+{
+    match record::coded_by_record(record, store.len(), uds_payload.len(), output.len(), 0) {
+        Recorded::Refused(refusal) => Reading::Refused(refusal),
+        Recorded::Coded(coded_type) => {
+            decode_described(coded_type, store, uds_payload, byte_pos, bit_pos, output)
+        }
+    }
+}

@@ -1,0 +1,109 @@
+// Parts of what was lent: so many bytes of a payload, by a coded type and by its record, and the name of a field's length key.
+ghost use mathlib.Core.Path.{_≡_};
+ghost use mathlib.Core.List.{_∷_};
+ghost use Prim.Native.Nat.{_≤_};
+ghost use lib.ListN.{length};
+ghost use Rattle.kinds.specs.Answers.{numbered};
+ghost use Rattle.kinds.specs.Outcomes.{answer};
+ghost use Rattle.parts.specs.Part.{runtimePart, partAnswer};
+ghost use Rattle.calls.specs.Calls.{byType, byRecord, described, runtimeRead, keyName};
+use coded::DiagCodedType;
+use kinds::ByteCount;
+use kinds::Check;
+use record::Recorded;
+
+// After the slices: what the coded type's own description is refused for, and then the part.
+fn part_described<'a>(
+    coded_type: DiagCodedType,
+    store: &[u8],
+    uds_payload: &'a [u8],
+    byte_pos: usize,
+    byte_count: ByteCount,
+    number: &mut u32,
+    report: &mut [usize; 4],
+) -> &'a [u8]
+    requires { ⌜ length (now «uds_payload») ≤ 65535 ⌝ }
+    ensures { λ r. ⌜ answer (now (number .exit) ∷ now (report .exit)) (now r) ≡ partAnswer (described «coded_type» (now (store .entry)) (λ t. runtimePart (now («uds_payload» .entry)) «byte_pos» («byte_count» .0))) ⌝ }
+{
+    match field::validate_description(coded_type, store.len()) {
+        Check::Refused(refusal) => parts::no_part(refusal, uds_payload, number, report),
+        Check::Passed => parts::part(uds_payload, byte_pos, byte_count, number, report),
+    }
+}
+
+// Hands back so many bytes of the payload as a part of it, unordered, and beside it the number and the report: bit count, byte
+// count, expected and actual. The part is empty on a refusal.
+pub fn decode_with_runtime_byte_length<'a>(
+    coded_type: DiagCodedType,
+    store: &[u8],
+    uds_payload: &'a [u8],
+    byte_pos: usize,
+    byte_count: ByteCount,
+    number: &mut u32,
+    report: &mut [usize; 4],
+) -> &'a [u8]
+    ensures { λ r. ⌜ answer (now (number .exit) ∷ now (report .exit)) (now r) ≡ runtimeRead (byType «coded_type») (now (store .entry)) (now («uds_payload» .entry)) «byte_pos» («byte_count» .0) ⌝ }
+{
+    match field::validate_slices(0, store.len(), uds_payload.len(), 0, 0) {
+        Check::Refused(refusal) => parts::no_part(refusal, uds_payload, number, report),
+        Check::Passed => part_described(
+            coded_type,
+            store,
+            uds_payload,
+            byte_pos,
+            byte_count,
+            number,
+            report,
+        ),
+    }
+}
+
+// The same of the coded type that a record says.
+pub fn decode_with_runtime_byte_length_by_record<'a>(
+    record: &[u8],
+    store: &[u8],
+    uds_payload: &'a [u8],
+    byte_pos: usize,
+    byte_count: ByteCount,
+    number: &mut u32,
+    report: &mut [usize; 4],
+) -> &'a [u8]
+    ensures { λ r. ⌜ answer (now (number .exit) ∷ now (report .exit)) (now r) ≡ runtimeRead (byRecord (now («record» .entry))) (now (store .entry)) (now («uds_payload» .entry)) «byte_pos» («byte_count» .0) ⌝ }
+{
+    match record::coded_by_record(record, store.len(), uds_payload.len(), 0, 0) {
+        Recorded::Refused(refusal) => parts::no_part(refusal, uds_payload, number, report),
+        Recorded::Coded(coded_type) => part_described(
+            coded_type,
+            store,
+            uds_payload,
+            byte_pos,
+            byte_count,
+            number,
+            report,
+        ),
+    }
+}
+
+// The name of the parameter that gives the length, a part of the store, and the number beside it. The part is empty on a
+// refusal, and where there is no name: `length_key_place` tells that from an empty name.
+pub fn length_key_name<'a>(coded_type: DiagCodedType, store: &'a [u8], number: &mut u32) -> &'a [u8]
+    ensures { λ r. ⌜ answer (numbered (now (number .exit))) (now r) ≡ keyName (byType «coded_type») (now (store .entry)) ⌝ }
+{
+    match field::validate_slices(0, store.len(), 0, 0, 0) {
+        Check::Refused(refusal) => {
+            *number = refusal.number();
+            return &store[..0];
+        }
+        Check::Passed => {}
+    }
+    match field::validate_description(coded_type, store.len()) {
+        Check::Refused(refusal) => {
+            *number = refusal.number();
+            &store[..0]
+        }
+        Check::Passed => {
+            *number = 0;
+            field::part_at(store, coded_type.length_key_place())
+        }
+    }
+}

@@ -1,2 +1,0 @@
--- Each way to a clear's answer.
-pub mod Clears

@@ -1,2 +1,0 @@
--- `Numbers` has which number is never given.
-pub mod Numbers

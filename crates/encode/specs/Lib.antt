@@ -1,2 +1,0 @@
--- The answer of an encode.
-pub mod Encode

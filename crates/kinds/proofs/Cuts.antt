@@ -1,0 +1,14 @@
+-- Bytes that are cut out of a payload, where they end within it.
+use mathlib.Core.Path.{_≡_}
+use mathlib.Core.List.{List}
+use Prim.Native.Nat.{ℕ, _-_, _≤_}
+use native.Mathlib.Omega.{arith}
+use lib.ListN.{length, length-take, length-drop}
+use Rattle.kinds.specs.Slices.{saturatingSum, cut}
+
+module _ (payload : List ℕ) (few : length payload ≤ 65535) (start n : ℕ) (inside : saturatingSum start n ≤ length payload) where
+  pub cut-end : saturatingSum start n - start ≡ n
+  cut-end = omega arith
+
+  pub length-cut : length (cut start n payload) ≡ n
+  length-cut = simp (length-take, length-drop) (omega arith)

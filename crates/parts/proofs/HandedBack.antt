@@ -1,0 +1,24 @@
+-- A part of the payload handed back: a law for each way to the answer.
+use mathlib.Core.Path.{_≡_}
+use mathlib.Core.List.{List, []}
+use Prim.Native.Nat.{ℕ, _*_, _≤_, _<_}
+use lib.ListN.{length}
+use borrow.Author.Tests.{ne-eqb, lt-ltb, le-ltb}
+use Rattle.kinds.specs.Answers.{wrote, short, read}
+use Rattle.kinds.specs.Slices.{saturatingSum, cut}
+use Rattle.kinds.specs.Outcomes.{answer}
+use Rattle.kinds.proofs.Cuts.{length-cut}
+use Rattle.parts.specs.Part.{runtimePart, partAnswer}
+
+module _ (payload : List ℕ) (at count : ℕ) where
+  pub part-none : count ≡ 0 → answer wrote [] ≡ partAnswer (runtimePart payload at count)
+  part-none e = rw e
+
+  module _ (some : count ≡ 0 → ⊥) where
+    pub part-short : {end : ℕ} → end ≡ saturatingSum at count → length payload < end → answer (short end (length payload)) [] ≡ partAnswer (runtimePart payload at count)
+    part-short e s = rw (ne-eqb count 0 some, e, lt-ltb (length payload) (saturatingSum at count) (rw e at s))
+
+    -- so many bits and bytes are reported, and a part of so many bytes is handed back
+    pub part-there : length payload ≤ 65535 → saturatingSum at count ≤ length payload → {bits shown k : ℕ} → bits ≡ 8 * count → shown ≡ count → k ≡ count
+        → answer (read bits shown) (cut at k payload) ≡ partAnswer (runtimePart payload at count)
+    part-there few s eb es ek = rw (ne-eqb count 0 some, le-ltb (length payload) (saturatingSum at count) s, length-cut payload few at count s, eb, es, ek)

@@ -1,0 +1,2 @@
+-- The laws of a part that is handed back.
+pub mod HandedBack

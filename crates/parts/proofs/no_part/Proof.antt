@@ -1,0 +1,17 @@
+-- `parts::no_part` meets its contract.
+use mathlib.Core.Path.{ap}
+use borrow.Author.Needs.{needs}
+use Rattle.parts.proofs.no_part.Statement.{statement}
+use Rattle.parts.proofs.no_part.Tie as tie
+
+number-requires : tie.Need-number-requires
+number-requires c κs = search needs
+
+slice-aggregate-result : tie.Need-slice-aggregate-result
+slice-aggregate-result c = search needs
+
+returns : tie.Need-returns
+returns c = rw (c .before .before .number .ensures)
+
+pub no-part-spec : {M : Type 1} → statement M
+no-part-spec = tie.close (tie.spec number-requires slice-aggregate-result returns)

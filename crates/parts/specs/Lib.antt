@@ -1,0 +1,2 @@
+-- The part that is handed back.
+pub mod Part

@@ -1,2 +1,0 @@
--- `NotFound` has a check's refusal handed on.
-pub mod NotFound

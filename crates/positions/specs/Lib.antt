@@ -1,2 +1,0 @@
--- `Located` has where a field's bits are, or what the search for them reports.
-pub mod Located

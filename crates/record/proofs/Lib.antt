@@ -1,2 +1,0 @@
--- What is refused of a record is not 30.
-pub mod Prefix

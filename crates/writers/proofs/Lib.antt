@@ -1,2 +1,0 @@
--- What a variant's calls leave.
-pub mod Writings
