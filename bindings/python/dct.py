@@ -7,70 +7,47 @@ import ctypes
 import os
 from typing import NamedTuple, Union
 
-__version__ = "1.0.0"
+__version__ = "1.1.0"
 
-# What a call answers: OK, or the number of its refusal, as include/dct.h has them.
-OK = 0
-NUMERIC_WITH_VARIABLE_LENGTH = 10
-ODD_UNICODE_LIMITS = 11
-ZERO_MAXIMUM = 12
-MAXIMUM_BELOW_MINIMUM = 13
-BYTE_TYPE_AT_BIT_POSITION = 20
-ZERO_BIT_LENGTH = 21
-INTEGER_TOO_LONG = 22
-FLOAT32_LENGTH = 23
-FLOAT64_LENGTH = 24
-UNICODE_LENGTH = 25
-BIT_POSITION_ABOVE_SEVEN = 26
-BITS_PAST_CUT = 27
-NOT_ENOUGH_DATA = 30
-LENGTH_FIELD_PAST_PAYLOAD = 31
-LENGTH_FIELD_TOO_WIDE = 32
-COUNT_TOO_LARGE = 33
-SCAN_PAST_PAYLOAD = 34
-EMPTY_UNTIL_END_OF_PDU = 35
-MASK_LONGER_THAN_LENGTH = 36
-RUNTIME_LENGTH_NEEDED = 37
-EMPTY_LENGTH_FIELD = 38
-NOT_CLEARABLE = 39
-PAYLOAD_LACKS_ROOM = 40
-OUTPUT_LACKS_ROOM = 41
-MALFORMED_RECORD = 42
-SLICE_TOO_LONG = 43
-USED_PAST_SLICE = 44
-MALFORMED_TABLE = 45
+_MEANINGS = {}
 
-_MEANINGS = {
-    OK: "the call did what it says",
-    NUMERIC_WITH_VARIABLE_LENGTH: "a numeric type whose length the payload would tell",
-    ODD_UNICODE_LIMITS: "Unicode2String with an odd minimum, an odd maximum or no maximum",
-    ZERO_MAXIMUM: "the maximum is 0",
-    MAXIMUM_BELOW_MINIMUM: "the maximum is below the minimum",
-    BYTE_TYPE_AT_BIT_POSITION: "a byte type at a bit position that is not 0",
-    ZERO_BIT_LENGTH: "the bit length is 0",
-    INTEGER_TOO_LONG: "an integer of more than 64 bits",
-    FLOAT32_LENGTH: "Float32 of another length than 32 bits",
-    FLOAT64_LENGTH: "Float64 of another length than 64 bits",
-    UNICODE_LENGTH: "Unicode2String of a length that is no multiple of 16 bits",
-    BIT_POSITION_ABOVE_SEVEN: "the bit position is above 7",
-    BITS_PAST_CUT: "decode: the field runs past the bytes that its length takes",
-    NOT_ENOUGH_DATA: "the payload is too short: expected and actual say by how much",
-    LENGTH_FIELD_PAST_PAYLOAD: "the length field runs past the payload",
-    LENGTH_FIELD_TOO_WIDE: "the length field has more than 64 bits",
-    COUNT_TOO_LARGE: "encode: the byte count needs more bits than the length field has",
-    SCAN_PAST_PAYLOAD: "decode: a scan for zero ends past the payload",
-    EMPTY_UNTIL_END_OF_PDU: "encode: an empty input where the payload's end would end it",
-    MASK_LONGER_THAN_LENGTH: "encode, clear: a condensed mask with more bits than the field",
-    RUNTIME_LENGTH_NEEDED: "decode: a parameter gives the length; use dct_read",
-    EMPTY_LENGTH_FIELD: "encode: an empty input behind a length field of 0 bits",
-    NOT_CLEARABLE: "clear: not a numeric field of a length that the record tells",
-    PAYLOAD_LACKS_ROOM: "encode: the payload's slice ends before the field does",
-    OUTPUT_LACKS_ROOM: "decode: the output is smaller than what was read",
-    MALFORMED_RECORD: "the record is malformed or absent, or its part is outside the store",
-    SLICE_TOO_LONG: "more than 65,535 bytes, or than 32,768 of the store",
-    USED_PAST_SLICE: "the used length is above the payload's",
-    MALFORMED_TABLE: "the table's mark, version, count, store length or total size is wrong",
-}
+
+def _numbered(number: int, meaning: str) -> int:
+    _MEANINGS[number] = meaning
+    return number
+
+
+# What a call answers: OK, or the number of its refusal. These lines are those of include/dct.h, written by bindings/numbers.
+OK = _numbered(0, "the call did what it says")
+NUMERIC_WITH_VARIABLE_LENGTH = _numbered(10, "a numeric type whose length the payload would tell")
+ODD_UNICODE_LIMITS = _numbered(11, "Unicode2String with an odd minimum, an odd maximum or no maximum")
+ZERO_MAXIMUM = _numbered(12, "the maximum is 0")
+MAXIMUM_BELOW_MINIMUM = _numbered(13, "the maximum is below the minimum")
+BYTE_TYPE_AT_BIT_POSITION = _numbered(20, "a byte type at a bit position that is not 0")
+ZERO_BIT_LENGTH = _numbered(21, "the bit length is 0")
+INTEGER_TOO_LONG = _numbered(22, "an integer of more than 64 bits")
+FLOAT32_LENGTH = _numbered(23, "Float32 of another length than 32 bits")
+FLOAT64_LENGTH = _numbered(24, "Float64 of another length than 64 bits")
+UNICODE_LENGTH = _numbered(25, "Unicode2String of a length that is no multiple of 16 bits")
+BIT_POSITION_ABOVE_SEVEN = _numbered(26, "the bit position is above 7")
+BITS_PAST_CUT = _numbered(27, "decode: the field runs past the bytes that its length takes")
+NOT_ENOUGH_DATA = _numbered(30, "the payload is too short: expected and actual say by how much")
+LENGTH_FIELD_PAST_PAYLOAD = _numbered(31, "the length field runs past the payload")
+LENGTH_FIELD_TOO_WIDE = _numbered(32, "the length field has more than 64 bits")
+COUNT_TOO_LARGE = _numbered(33, "encode: the byte count needs more bits than the length field has")
+SCAN_PAST_PAYLOAD = _numbered(34, "decode: a scan for zero ends past the payload")
+EMPTY_UNTIL_END_OF_PDU = _numbered(35, "encode: an empty input where the payload's end would end it")
+MASK_LONGER_THAN_LENGTH = _numbered(36, "encode, clear: a condensed mask with more bits than the field")
+RUNTIME_LENGTH_NEEDED = _numbered(37, "decode: a parameter gives the length; use dct_read")
+EMPTY_LENGTH_FIELD = _numbered(38, "encode: an empty input behind a length field of 0 bits")
+NOT_CLEARABLE = _numbered(39, "clear: not a numeric field of a length that the record tells")
+PAYLOAD_LACKS_ROOM = _numbered(40, "encode: the payload's slice ends before the field does")
+OUTPUT_LACKS_ROOM = _numbered(41, "decode: the output is smaller than what was read")
+MALFORMED_RECORD = _numbered(42, "the record is malformed or absent, or its part is outside the store")
+SLICE_TOO_LONG = _numbered(43, "more than 65,535 bytes, or than 32,768 of the store")
+USED_PAST_SLICE = _numbered(44, "the used length is above the payload's")
+MALFORMED_TABLE = _numbered(45, "the table's mark, version, count, store length or total size is wrong")
+# end of the numbers
 
 _RECORD_LENGTH = 16
 # The first length that is refused for every slice.

@@ -1,20 +1,45 @@
-//! Links the archive libdct.a, from the folder that DCT_LIB_DIR names or from where `rt staticlib dct` writes it.
-use std::{env, path::Path, process};
+//! Links the archive libdct.a, from the folder that DCT_LIB_DIR names or from where `rt staticlib dct` writes it, and takes the numbers of
+//! the refusals with their sentences from dct.h, in the folder that DCT_INCLUDE_DIR names or in the repository's.
+use std::path::{Path, PathBuf};
+use std::{env, fs, process};
+
+fn stop(why: String) -> ! {
+    eprintln!("dct: {why}");
+    process::exit(1);
+}
+
+/// A file in the folder that a variable names, or else in the repository's.
+fn found(variable: &str, folder: &str, name: &str, advice: &str) -> PathBuf {
+    println!("cargo:rerun-if-env-changed={variable}");
+    let here = env::var_os("CARGO_MANIFEST_DIR").expect("cargo sets it");
+    let folder = Path::new(&here).join(env::var_os(variable).unwrap_or_else(|| folder.into()));
+    let file = folder.join(name);
+    println!("cargo:rerun-if-changed={}", file.display());
+    if !file.is_file() {
+        stop(format!("no {name} in {}: {advice}, and {variable} names another folder, by its whole path", folder.display()));
+    }
+    file
+}
+
+/// The numbers of the header as lines of the macro `numbers`.
+fn numbers(header: &str) -> String {
+    let lines = header.lines().filter_map(|line| line.strip_prefix("    DCT_"));
+    lines
+        .map(|line| {
+            let parts = line.split_once(" = ").zip(line.split_once("/* "));
+            let ((name, rest), (_, sentence)) = parts.unwrap_or_else(|| stop(format!("dct.h has no number in '{line}'")));
+            let number: u32 = rest.chars().take_while(char::is_ascii_digit).collect::<String>().parse().expect("a number");
+            format!("{name} = {number}, {:?};\n", sentence.trim_end_matches(" */"))
+        })
+        .collect()
+}
 
 fn main() {
-    println!("cargo:rerun-if-env-changed=DCT_LIB_DIR");
-    let here = env::var_os("CARGO_MANIFEST_DIR").expect("cargo sets it");
-    let folder = Path::new(&here).join(env::var_os("DCT_LIB_DIR").unwrap_or_else(|| "../../target/staticlib".into()));
-    let archive = folder.join("libdct.a");
-    println!("cargo:rerun-if-changed={}", archive.display());
-    if !archive.is_file() {
-        eprintln!(
-            "dct: no libdct.a in {}: 'rt staticlib dct' writes it to target/staticlib of the repository, and DCT_LIB_DIR names \
-             another folder, by its whole path",
-            folder.display()
-        );
-        process::exit(1);
-    }
-    println!("cargo:rustc-link-search=native={}", folder.display());
+    let archive = found("DCT_LIB_DIR", "../../target/staticlib", "libdct.a", "'rt staticlib dct' writes it to target/staticlib of the repository");
+    println!("cargo:rustc-link-search=native={}", archive.parent().expect("it is in a folder").display());
     println!("cargo:rustc-link-lib=static=dct");
+    let header = found("DCT_INCLUDE_DIR", "../../include", "dct.h", "the repository has it in include");
+    let text = fs::read_to_string(header).unwrap_or_else(|error| stop(error.to_string()));
+    let out = Path::new(&env::var_os("OUT_DIR").expect("cargo sets it")).join("numbers.rs");
+    fs::write(out, format!("numbers! {{\n{}}}\n", numbers(&text))).unwrap_or_else(|error| stop(error.to_string()));
 }

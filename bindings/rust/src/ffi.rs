@@ -1,73 +1,9 @@
-//! The five functions of include/dct.h, called with slices, and all that is unsafe in the crate.
+//! The five functions of include/dct.h, called with slices, and all that is unsafe in the crate but for their declarations.
 //!
 //! What the header asks of a caller holds by the types: a slice's pointer is never null and holds what its length says, and what
 //! is lent by `&mut` overlaps nothing else.
+use crate::raw::{dct_clear, dct_decode, dct_encode, dct_fetch, dct_read, Report};
 use crate::{number, Field, Refusal};
-
-/// `struct dct_report`.
-#[derive(Default)]
-#[repr(C)]
-pub struct Report {
-    pub bit_count: usize,
-    pub byte_count: usize,
-    pub expected: usize,
-    pub actual: usize,
-}
-
-extern "C" {
-    fn dct_decode(
-        record: *const u8,
-        record_length: usize,
-        store: *const u8,
-        store_length: usize,
-        payload: *const u8,
-        payload_length: usize,
-        byte_pos: usize,
-        bit_pos: usize,
-        output: *mut u8,
-        output_length: usize,
-        report: *mut Report,
-    ) -> u32;
-    fn dct_encode(
-        record: *const u8,
-        record_length: usize,
-        store: *const u8,
-        store_length: usize,
-        input: *const u8,
-        input_length: usize,
-        payload: *mut u8,
-        payload_length: usize,
-        used: *mut usize,
-        byte_pos: usize,
-        bit_pos: usize,
-        report: *mut Report,
-    ) -> u32;
-    fn dct_clear(
-        record: *const u8,
-        record_length: usize,
-        store: *const u8,
-        store_length: usize,
-        payload: *mut u8,
-        payload_length: usize,
-        used: usize,
-        byte_pos: usize,
-        bit_pos: usize,
-        report: *mut Report,
-    ) -> u32;
-    fn dct_read(
-        record: *const u8,
-        record_length: usize,
-        store: *const u8,
-        store_length: usize,
-        payload: *const u8,
-        payload_length: usize,
-        byte_pos: usize,
-        byte_count: usize,
-        place: *mut usize,
-        report: *mut Report,
-    ) -> u32;
-    fn dct_fetch(table: *const u8, table_length: usize, number: usize, places: *mut [usize; 3]) -> u32;
-}
 
 /// The report of a call that gave a number.
 fn answered(number: u32, report: Report) -> Result<Report, Refusal> {

@@ -20,6 +20,9 @@ compile_error!("dct is for 64-bit x86-64 machines: its archive has no code for o
 
 #[allow(unsafe_code)]
 mod ffi;
+#[allow(unsafe_code)]
+#[doc(hidden)]
+pub mod raw;
 mod refusal;
 
 pub use refusal::{number, Refusal};

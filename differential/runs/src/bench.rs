@@ -1,8 +1,8 @@
 //! Our library beside the original: the same calls, both release builds, in one process and in turns; and the instructions
 //! that each takes.
 use crate::field::{ASCII, BYTE_FIELD, Field, UINT32, UNICODE2, Variant, ZERO};
-use crate::library::{dct_clear, dct_decode, dct_encode, dct_read};
 use crate::original_side::coded_type;
+use dct::raw::{Report, dct_clear, dct_decode, dct_encode, dct_read};
 use original::diag_coded_type::DiagCodedType;
 use std::hint::black_box;
 use std::process::Command;
@@ -101,7 +101,7 @@ impl Work {
     fn ours(&self, times: usize) {
         let (record, store) = (self.field.record(0), self.field.part().to_vec());
         let (mut payload, mut output) = (self.payload.clone(), vec![0u8; 2048]);
-        let (mut report, mut used, mut place) = ([0usize; 4], payload.len(), 0);
+        let (mut report, mut used, mut place) = (Report::default(), payload.len(), 0);
         let (r, s, i) = (record.as_ptr(), store.as_ptr(), self.input.as_ptr());
         let (m, n, k) = (record.len(), store.len(), self.input.len());
         let (p, q) = (payload.as_mut_ptr(), payload.len());

@@ -1,62 +1,7 @@
 //! Our library, called as C calls it: everything lent stands between marks, so that a byte written beside it shows.
 use crate::case::{Answer, Call, Case};
-
-type Report = [usize; 4];
-
-unsafe extern "C" {
-    pub fn dct_decode(
-        record: *const u8,
-        record_length: usize,
-        store: *const u8,
-        store_length: usize,
-        payload: *const u8,
-        payload_length: usize,
-        byte_pos: usize,
-        bit_pos: usize,
-        output: *mut u8,
-        output_length: usize,
-        report: *mut Report,
-    ) -> u32;
-    pub fn dct_encode(
-        record: *const u8,
-        record_length: usize,
-        store: *const u8,
-        store_length: usize,
-        input: *const u8,
-        input_length: usize,
-        payload: *mut u8,
-        payload_length: usize,
-        used: *mut usize,
-        byte_pos: usize,
-        bit_pos: usize,
-        report: *mut Report,
-    ) -> u32;
-    pub fn dct_clear(
-        record: *const u8,
-        record_length: usize,
-        store: *const u8,
-        store_length: usize,
-        payload: *mut u8,
-        payload_length: usize,
-        used: usize,
-        byte_pos: usize,
-        bit_pos: usize,
-        report: *mut Report,
-    ) -> u32;
-    pub fn dct_read(
-        record: *const u8,
-        record_length: usize,
-        store: *const u8,
-        store_length: usize,
-        payload: *const u8,
-        payload_length: usize,
-        byte_pos: usize,
-        byte_count: usize,
-        place: *mut usize,
-        report: *mut Report,
-    ) -> u32;
-    pub fn dct_fetch(table: *const u8, table_length: usize, number: usize, places: *mut [usize; 3]) -> u32;
-}
+use dct::raw::{dct_clear, dct_decode, dct_encode, dct_fetch, dct_read};
+use std::ptr;
 
 const MARK: [u8; 16] = [0xC5; 16];
 /// What stands where a call has to write a number.
@@ -127,6 +72,7 @@ fn lending(case: &Case) -> ([&[u8]; 4], Option<usize>) {
 fn made(call: &Call, lent: &mut Lent, answer: &mut Answer) {
     let [(r, m), (s, n), (p, k), (q, l)] = [0, 1, 2, 3].map(|i| lent.pointer(i));
     let Answer { report, used, places, .. } = answer;
+    let report = ptr::from_mut(report).cast();
     answer.number = unsafe {
         match *call {
             Call::Decode { byte_pos, bit_pos, .. } => dct_decode(r, m, s, n, p, k, byte_pos, bit_pos, q, l, report),

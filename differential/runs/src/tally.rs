@@ -72,7 +72,11 @@ const NUMBERS: [&[u32]; 5] = [
 impl Tally {
     /// Prints how often each call gave each number, and answers whether each gave all that it can.
     pub fn show_numbers(&self) -> bool {
-        let mut all = true;
+        let of_no_call: Vec<&u32> = dct::number::ALL.iter().filter(|n| !NUMBERS.iter().any(|of| of.contains(n))).collect();
+        let mut all = of_no_call.is_empty();
+        if !all {
+            println!("numbers of include/dct.h that no call is said to give: {of_no_call:?}");
+        }
         for (kind, name) in Call::NAMES.iter().enumerate() {
             println!("{name}: {}", self.numbers_of(kind));
             let missing: Vec<&u32> = NUMBERS[kind].iter().filter(|n| self.numbers[kind][**n as usize] == 0).collect();

@@ -9,7 +9,7 @@ use std::collections::HashSet;
 use std::sync::LazyLock;
 
 const HEADER: &str = include_str!("../../../../include/dct.h");
-const NUMBERS: &str = include_str!("../../src/refusal.rs");
+const NUMBERS: &str = include_str!(concat!(env!("OUT_DIR"), "/numbers.rs"));
 
 static STORED: LazyLock<Vec<Case>> = LazyLock::new(stored::cases);
 static CASES: LazyLock<Vec<Case>> = LazyLock::new(cases::cases);
