@@ -2,10 +2,8 @@
 use mathlib.Core.Path.{_≡_, ap}
 use mathlib.Core.List.{List}
 use Prim.Native.Nat.{ℕ, _≤_}
-use native.Mathlib.Omega.{arith}
 use lib.ListN.{length}
 use Rattle.kinds.specs.declared.types.ByteOrder.{ByteOrder}
-use Rattle.kinds.specs.declared.refusals.Check.the-variants.{Passed}
 use Rattle.kinds.specs.Types.{byteOrder}
 use Rattle.kinds.specs.Outcomes.{Outcome, gives, following}
 use Rattle.kinds.proofs.Outcomes.{made-passed}

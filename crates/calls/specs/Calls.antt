@@ -6,15 +6,15 @@ use Rattle.kinds.specs.Answers.{wrote}
 use Rattle.kinds.specs.Outcomes.{Outcome, gives, after, following, Answer, answer, concluded}
 use Rattle.coded.specs.declared.coded_type.DiagCodedType.{DiagCodedType}
 use Rattle.coded.specs.Getters.{keyNameOf}
-use Rattle.field.specs.Field.{Field, fieldOf, partAt}
+use Rattle.field.specs.Field.{fieldOf, partAt}
 use Rattle.field.specs.Refusals.{slicesRefusal, descriptionRefusal}
 use Rattle.record.specs.Calls.{codedByRecord}
 use Rattle.parts.specs.Part.{runtimePart, partAnswer}
 use Rattle.unpack.specs.Found.{readAnswer}
 use Rattle.readers.specs.Finding.{fieldFinding}
 use Rattle.payload.specs.Payload.{Payload, writeAnswer}
-use Rattle.writers.specs.Shapes.{fieldEncoded}
-use Rattle.clear.specs.Clear.{fieldCleared}
+use Rattle.writers.specs.Shapes.{fieldEncoding}
+use Rattle.clear.specs.Clear.{fieldClearing}
 
 -- what a call is told of its field: a coded type, or the bytes of a record
 pub data Description : Type 0 where
@@ -39,11 +39,11 @@ decoded d store payload at pos output =
 
 unfoldable pub encoded : Description → List ℕ → List ℕ → Payload → ℕ → ℕ → Answer Payload
 encoded d store input p at pos =
-    writeAnswer p (called d store (length input) (length (p .bytes)) (p .used) (λ t. fieldEncoded (fieldOf t store) input p at pos))
+    writeAnswer p (called d store (length input) (length (p .bytes)) (p .used) (λ t. fieldEncoding (fieldOf t store) input p at pos))
 
 unfoldable pub clearedField : Description → List ℕ → Payload → ℕ → ℕ → Answer Payload
 clearedField d store p at pos =
-    writeAnswer p (called d store 0 (length (p .bytes)) (p .used) (λ t. fieldCleared (fieldOf t store) p at pos))
+    writeAnswer p (called d store 0 (length (p .bytes)) (p .used) (λ t. fieldClearing (fieldOf t store) p at pos))
 
 -- the read with a byte count given at run time
 unfoldable pub runtimeRead : Description → List ℕ → List ℕ → ℕ → ℕ → Answer (List ℕ)

@@ -6,7 +6,7 @@ ghost use Rattle.kinds.specs.Answers.{reportOfWriting};
 ghost use Rattle.kinds.specs.Outcomes.{answer};
 ghost use Rattle.field.specs.Field.{fieldOf};
 ghost use Rattle.payload.specs.Payload.{payloadOf, writeAnswer};
-ghost use Rattle.clear.specs.Clear.{fieldCleared};
+ghost use Rattle.clear.specs.Clear.{fieldClearing};
 ghost use Rattle.calls.specs.Calls.{byType, byRecord, described, clearedField};
 use coded::DiagCodedType;
 use kinds::Check;
@@ -25,7 +25,7 @@ fn clear_described(
     requires { ⌜ length (now store) ≤ 65535 ⌝ }
     requires { ⌜ length (now «uds_payload») ≤ 65535 ⌝ }
     requires { ⌜ used ≤ length (now «uds_payload») ⌝ }
-    ensures { λ r. ⌜ answer (reportOfWriting r) (payloadOf (now («uds_payload» .exit)) used) ≡ writeAnswer (payloadOf (now («uds_payload» .entry)) used) (described «coded_type» (now (store .entry)) (λ t. fieldCleared (fieldOf t (now (store .entry))) (payloadOf (now («uds_payload» .entry)) used) «byte_pos» «bit_pos»)) ⌝ }
+    ensures { λ r. ⌜ answer (reportOfWriting r) (payloadOf (now («uds_payload» .exit)) used) ≡ writeAnswer (payloadOf (now («uds_payload» .entry)) used) (described «coded_type» (now (store .entry)) (λ t. fieldClearing (fieldOf t (now (store .entry))) (payloadOf (now («uds_payload» .entry)) used) «byte_pos» «bit_pos»)) ⌝ }
 {
     match field::validate_description(coded_type, store.len()) {
         Check::Refused(refusal) => Writing::Refused(refusal),

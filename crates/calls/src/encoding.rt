@@ -6,7 +6,7 @@ ghost use Rattle.kinds.specs.Answers.{reportOfWriting};
 ghost use Rattle.kinds.specs.Outcomes.{answer};
 ghost use Rattle.field.specs.Field.{fieldOf};
 ghost use Rattle.payload.specs.Payload.{payloadOf, writeAnswer};
-ghost use Rattle.writers.specs.Shapes.{fieldEncoded};
+ghost use Rattle.writers.specs.Shapes.{fieldEncoding};
 ghost use Rattle.calls.specs.Calls.{byType, byRecord, described, encoded};
 use coded::DiagCodedType;
 use kinds::Check;
@@ -27,7 +27,7 @@ fn encode_described(
     requires { ⌜ length (now «input_data») ≤ 65535 ⌝ }
     requires { ⌜ length (now «uds_payload») ≤ 65535 ⌝ }
     requires { ⌜ now used ≤ length (now «uds_payload») ⌝ }
-    ensures { λ r. ⌜ answer (reportOfWriting r) (payloadOf (now («uds_payload» .exit)) (now (used .exit))) ≡ writeAnswer (payloadOf (now («uds_payload» .entry)) (now (used .entry))) (described «coded_type» (now (store .entry)) (λ t. fieldEncoded (fieldOf t (now (store .entry))) (now («input_data» .entry)) (payloadOf (now («uds_payload» .entry)) (now (used .entry))) «byte_pos» «bit_pos»)) ⌝ }
+    ensures { λ r. ⌜ answer (reportOfWriting r) (payloadOf (now («uds_payload» .exit)) (now (used .exit))) ≡ writeAnswer (payloadOf (now («uds_payload» .entry)) (now (used .entry))) (described «coded_type» (now (store .entry)) (λ t. fieldEncoding (fieldOf t (now (store .entry))) (now («input_data» .entry)) (payloadOf (now («uds_payload» .entry)) (now (used .entry))) «byte_pos» «bit_pos»)) ⌝ }
 {
     match field::validate_description(coded_type, store.len()) {
         Check::Refused(refusal) => Writing::Refused(refusal),

@@ -30,9 +30,9 @@ module _ (t : DataType) (o : ByteOrder) (p : Payload) (at pos : ℕ) where
   shapeCleared (shape.MinMax m) mask = refuses NotClearable
   shapeCleared shape.Param mask = refuses NotClearable
 
-abbrev pub fieldCleared : Field → Payload → ℕ → ℕ → Outcome Payload
-fieldCleared f p at pos = shapeCleared (f .type) (f .order) p at pos (f .shape) (f .mask)
+abbrev pub fieldClearing : Field → Payload → ℕ → ℕ → Outcome Payload
+fieldClearing f p at pos = shapeCleared (f .type) (f .order) p at pos (f .shape) (f .mask)
 
 -- a field taken back to zero at a byte position and a bit position
 abbrev pub clearOf : Field → Payload → ℕ → ℕ → Answer Payload
-clearOf f p at pos = writeAnswer p (fieldCleared f p at pos)
+clearOf f p at pos = writeAnswer p (fieldClearing f p at pos)

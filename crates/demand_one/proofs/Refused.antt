@@ -37,8 +37,8 @@ use Rattle.cutout.specs.CutOut.{cleared}
 use Rattle.payload.specs.Payload.{Payload, payloadOf}
 use Rattle.payload.specs.Writing.{inCutOut, cutBytes, cutEnd, aboveSeven, writeRefusal, written, writing, clearing}
 use Rattle.lengths.specs.Refusals.{standardRefusal, countRefusal, emptyRefusal}
-use Rattle.writers.specs.Shapes.{withTerminator, shapeEncoded, fieldEncoded}
-use Rattle.clear.specs.Clear.{shapeCleared, fieldCleared}
+use Rattle.writers.specs.Shapes.{withTerminator, shapeEncoded, fieldEncoding}
+use Rattle.clear.specs.Clear.{shapeCleared, fieldClearing}
 use Rattle.parts.specs.Part.{runtimePart, partAnswer}
 use Rattle.calls.specs.Calls.{Description, codedBy, called, decoded, encoded, clearedField, runtimeRead}
 use Rattle.dct.specs.Boundary.{partStart, startAnswer, placesOf, placesFetched}
@@ -176,7 +176,7 @@ module _ (d : Description) (store : List ℕ) where
   encode-ends : (input : List ℕ) (p : Payload) (at pos : ℕ) → Ends (Encodes p) p (encoded d store input p at pos)
   unfolding encoded
   encode-ends input p at pos =
-      let own : DiagCodedType → Outcome Payload = λ t. fieldEncoded (fieldOf t store) input p at pos in
+      let own : DiagCodedType → Outcome Payload = λ t. fieldEncoding (fieldOf t store) input p at pos in
       let P : Payload → Type 0 = λ q. length (q .bytes) ≡ length (p .bytes) in
       ends P (Encodes p) p (answer wrote) (λ q h. record { reports = refl; size = h }) (called d store (length input) (length (p .bytes)) (p .used) own)
       (holds-called P d store (length input) (length (p .bytes)) (p .used) own
@@ -187,7 +187,7 @@ module _ (d : Description) (store : List ℕ) where
   clear-ends : (p : Payload) (at pos : ℕ) → Ends (Clears p) p (clearedField d store p at pos)
   unfolding clearedField
   clear-ends p at pos =
-      let own : DiagCodedType → Outcome Payload = λ t. fieldCleared (fieldOf t store) p at pos in
+      let own : DiagCodedType → Outcome Payload = λ t. fieldClearing (fieldOf t store) p at pos in
       let P : Payload → Type 0 = λ q. (length (q .bytes) ≡ length (p .bytes)) × (q .used ≡ p .used) in
       ends P (Clears p) p (answer wrote) (λ q h. (record { reports = refl; size = h .0 }, h .1)) (called d store 0 (length (p .bytes)) (p .used) own)
       (holds-called P d store 0 (length (p .bytes)) (p .used) own (λ t. let f = fieldOf t store in clear-keeps p (f .order) at pos (f .type) (f .shape) (f .mask)))

@@ -5,6 +5,7 @@ use lib.Dec.{ltb}
 use Rattle.kinds.specs.declared.refusals.Refusal.the-variants.{MalformedRecord, SliceTooLong, UsedPastSlice}
 use Rattle.kinds.specs.declared.refusals.Check.{Check}
 use Rattle.kinds.specs.declared.refusals.Check.the-variants.{Passed}
+use Rattle.kinds.specs.Slices.{sliceLimit, storeLimit}
 use Rattle.kinds.specs.Outcomes.{rule, firstOf, orElse}
 use Rattle.coded.specs.declared.variants.OptionalPlace.{OptionalPlace}
 use Rattle.coded.specs.declared.variants.OptionalPlace.the-variants.{At, Absent}
@@ -16,10 +17,10 @@ use Rattle.field.specs.Field.{outside, storePlace}
 abbrev pub slicesRefusal : ℕ → ℕ → ℕ → ℕ → ℕ → Check
 slicesRefusal bytes store a b used =
     firstOf
-    (rule (ltb 65535 bytes) SliceTooLong
-    ∷ rule (ltb 32768 store) SliceTooLong
-    ∷ rule (ltb 65535 a) SliceTooLong
-    ∷ rule (ltb 65535 b) SliceTooLong
+    (rule (ltb sliceLimit bytes) SliceTooLong
+    ∷ rule (ltb storeLimit store) SliceTooLong
+    ∷ rule (ltb sliceLimit a) SliceTooLong
+    ∷ rule (ltb sliceLimit b) SliceTooLong
     ∷ rule (ltb b used) UsedPastSlice
     ∷ [])
 

@@ -11,6 +11,8 @@ use coded::Place;
 use kinds::BitLength;
 use kinds::Check;
 use kinds::Refusal;
+use kinds::SLICE_LIMIT;
+use kinds::STORE_LIMIT;
 use masks::MaskUse;
 
 // What a variant says, but for the parts of the store that it speaks of.
@@ -126,16 +128,16 @@ pub fn validate_slices(
 ) -> Check
     ensures { λ r. ⌜ r ≡ slicesRefusal «record_len» «store_len» «first_len» «second_len» used ⌝ }
 {
-    if 65535 < record_len {
+    if SLICE_LIMIT < record_len {
         return Check::Refused(Refusal::SliceTooLong);
     }
-    if 32768 < store_len {
+    if STORE_LIMIT < store_len {
         return Check::Refused(Refusal::SliceTooLong);
     }
-    if 65535 < first_len {
+    if SLICE_LIMIT < first_len {
         return Check::Refused(Refusal::SliceTooLong);
     }
-    if 65535 < second_len {
+    if SLICE_LIMIT < second_len {
         return Check::Refused(Refusal::SliceTooLong);
     }
     if second_len < used {

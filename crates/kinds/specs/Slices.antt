@@ -1,7 +1,14 @@
--- Positions in a slice: document 01's sums, and the bytes at a place.
+-- Document 01, 'Domain' and 'Order': how long a slice may be, sums of positions, and the bytes at a place.
 use Prim.Native.Nat.{ℕ, _+_, min}
 use mathlib.Core.List.{List}
 use lib.ListN.{take, drop}
+
+-- every lent slice has at most so many bytes, the store of masks and key names fewer
+abbrev pub sliceLimit : ℕ
+sliceLimit = 65535
+
+abbrev pub storeLimit : ℕ
+storeLimit = 32768
 
 -- sums saturate at 2^64-1
 abbrev pub saturatingSum : ℕ → ℕ → ℕ

@@ -1,4 +1,4 @@
-// Data types, bit lengths, byte counts and byte order by value, with the refusals, the answers, the checks 20 to 25, and sums.
+// Data types, bit lengths, byte counts and byte order by value, with the refusals, the answers, the checks 20 to 25, limits and sums.
 mod refusals; // refusals.rt: the numbered refusals, and the answers of a check, a search, a reading and a writing
 mod types; // types.rt: data types, bit lengths, byte counts, byte order, and the checks of position and length
 
@@ -12,4 +12,6 @@ pub use types::BitLength;
 pub use types::ByteCount;
 pub use types::ByteOrder;
 pub use types::DataType;
+pub use types::SLICE_LIMIT;
+pub use types::STORE_LIMIT;
 pub use types::saturating_add;

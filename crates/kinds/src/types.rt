@@ -10,6 +10,11 @@ ghost use Rattle.kinds.specs.Refusals.{bitPositionRefusal, bitLengthRefu
 use super::refusals::Check;
 use super::refusals::Refusal;
 
+// A slice that a call is lent has at most so many bytes, and a store of masks and key names fewer.
+pub const SLICE_LIMIT: usize = 65535;
+
+pub const STORE_LIMIT: usize = 32768;
+
 pub enum DataType {
     Int32,
     UInt32,

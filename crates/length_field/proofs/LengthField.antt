@@ -29,7 +29,8 @@ use Rattle.bits.proofs.Numbers.{number-add, number-lowest}
 use Rattle.bits.proofs.Bytes.{Bytes, bitAt-lt, repack}
 use Rattle.bits.proofs.Runs.{bytes-cut, bytes-ordered}
 use Rattle.length_field.specs.declared.leading.LengthInfo.the-variants as info
-use Rattle.length_field.specs.Leading.{bigEndian, lengthInfo, lengthField, leadingCount, leadingEnd, dataPlace}
+use Rattle.length_field.specs.Leading.{bigEndian, lengthInfo, lengthField, leadingCount, leadingEnd}
+use Rattle.length_field.specs.CodePlace.{dataPlace}
 
 -- ---- bits and bytes of a number
 

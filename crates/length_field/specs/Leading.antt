@@ -4,15 +4,12 @@ use mathlib.Core.Bool.{cond, _||_}
 use mathlib.Core.List.{List, [], _∷_}
 use lib.ListN.{length, getD}
 use lib.Dec.{eqb, ltb}
-use Rattle.kinds.specs.declared.types.DataType.{DataType}
 use Rattle.kinds.specs.declared.types.ByteOrder.{ByteOrder}
 use Rattle.kinds.specs.Types.{bytesFor}
 use Rattle.kinds.specs.Slices.{saturatingSum, cut}
 use Rattle.kinds.specs.declared.refusals.Refusal.the-variants.{LengthFieldPastPayload, LengthFieldTooWide}
 use Rattle.kinds.specs.declared.refusals.Check.{Check}
-use Rattle.kinds.specs.Outcomes.{rule, firstOf, Outcome, gives, after, unlessShort}
-use Rattle.kinds.specs.CodePlaces.{Span, span}
-use Rattle.kinds.specs.Refusals.{bitLengthRefusal}
+use Rattle.kinds.specs.Outcomes.{rule, firstOf}
 use Rattle.order.specs.Order.{ordered}
 use Rattle.bits.specs.Bits.{bitAt, number}
 use Rattle.length_field.specs.declared.leading.LengthInfo.{LengthInfo}
@@ -50,14 +47,3 @@ module _ (o : ByteOrder) (bits : ℕ) (payload : List ℕ) (at : ℕ) where
       (rule (ltb (length payload) leadingStart) LengthFieldPastPayload
       ∷ rule (ltb 64 bits) LengthFieldTooWide
       ∷ [])
-
-  -- 31, 32, 30, and where the data bytes are
-  abbrev pub dataPlace : Outcome Span
-  dataPlace =
-      after lengthFieldRefusal
-      (unlessShort (ltb (length payload) leadingEnd) leadingEnd (length payload)
-      (gives (span leadingStart (8 * leadingCount))))
-
-  -- 21, 25 first
-  abbrev pub leadingPlace : DataType → Outcome Span
-  leadingPlace t = after (bitLengthRefusal t bits) dataPlace

@@ -1,7 +1,7 @@
 -- No second answer fits the contract of a public function: what an answer shows decides it.
 use mathlib.Core.Path.{_≡_, refl, sym, ap, _∙_}
 use mathlib.Core.Bool.{Bool, cond}
-use mathlib.Core.List.{List, [], _∷_}
+use mathlib.Core.List.{List, _∷_}
 use Prim.Native.Nat.{ℕ}
 use lib.ListN.{getD, drop}
 use lib.Dec.{eqb}

@@ -1,7 +1,7 @@
 -- What is read at the place that each variant names is what the variant finds.
-use mathlib.Core.Path.{_≡_, refl, sym, ap, _∙_}
+use mathlib.Core.Path.{_≡_, ap, _∙_}
 use mathlib.Core.Logic.{⊎-elim}
-use mathlib.Core.Bool.{Bool, false, _&&_}
+use mathlib.Core.Bool.{_&&_}
 use mathlib.Core.List.{List}
 use Prim.Native.Nat.{ℕ, _-_, _*_, _≤_, _<_}
 use native.Mathlib.Omega.{arith}
@@ -20,9 +20,11 @@ use Rattle.kinds.proofs.Outcomes.{following-after, following-short, after-ext, 
 use Rattle.coded.specs.declared.variants.MinMaxLengthType.{MinMaxLengthType}
 use Rattle.bits.proofs.Bytes.{Bytes}
 use Rattle.masks.specs.Mask.{Mask, noMask}
-use Rattle.length_field.specs.Leading.{leadingStart, leadingCount, leadingEnd, lengthFieldRefusal, leadingPlace}
+use Rattle.length_field.specs.Leading.{leadingStart, leadingCount, leadingEnd, lengthFieldRefusal}
+use Rattle.length_field.specs.CodePlace.{leadingPlace}
 use Rattle.length_field.proofs.LengthField.{some-bits}
-use Rattle.scans.specs.MinMax.{minMaxEnd, scanRefusal, minMaxPlace}
+use Rattle.scans.specs.MinMax.{minMaxEnd, scanRefusal}
+use Rattle.scans.specs.CodePlace.{minMaxPlace}
 use Rattle.scans.proofs.Scans.{end-le}
 use Rattle.unpack.specs.Found.{Found}
 use Rattle.readers.specs.Finding.{bitsFinding, standardFinding, dataFound, leadingFinding, minMaxFinding}

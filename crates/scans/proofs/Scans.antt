@@ -14,7 +14,8 @@ use Rattle.coded.specs.declared.variants.MaxLength.the-variants.{Most, Unlimite
 use Rattle.coded.specs.declared.variants.Termination.{Termination}
 use Rattle.coded.specs.declared.variants.Termination.the-variants.{EndOfPdu, Zero, HexFF}
 use Rattle.coded.specs.declared.variants.MinMaxLengthType.{MinMaxLengthType}
-use Rattle.scans.specs.MinMax.{maxEnd, stopsAt, scan, scanned, endBy, endsWithZero, atLeast, minMaxEnd, minMaxPlace}
+use Rattle.scans.specs.MinMax.{maxEnd, stopsAt, scan, scanned, endBy, endsWithZero, minMaxEnd}
+use Rattle.scans.specs.CodePlace.{atLeast, minMaxPlace}
 
 pub maxEnd-le : (m : MaxLength) (at n : ℕ) → maxEnd m at n ≤ n
 maxEnd-le (Most most) at n = omega arith

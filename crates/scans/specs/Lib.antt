@@ -1,2 +1,3 @@
--- `MinMax` has where data bytes between limits end, and the place of such bytes.
+-- `MinMax` has where data bytes between limits end and what is refused of that, and `CodePlace` how the code tells their place.
 pub mod MinMax
+pub mod CodePlace

@@ -1,5 +1,5 @@
 -- Document 01, 'Decode', MinMax.
-use Prim.Native.Nat.{ℕ, zero, suc, _+_, _-_, _*_, _/_, min}
+use Prim.Native.Nat.{ℕ, zero, suc, _+_, _-_, _/_, min}
 use mathlib.Core.Bool.{Bool, true, false, cond, _&&_}
 use mathlib.Core.List.{List, [], _∷_}
 use lib.ListN.{length, getD}
@@ -7,8 +7,7 @@ use lib.Dec.{eqb, ltb, leb}
 use Rattle.kinds.specs.Slices.{saturatingSum}
 use Rattle.kinds.specs.declared.refusals.Refusal.the-variants.{ScanPastPayload}
 use Rattle.kinds.specs.declared.refusals.Check.{Check}
-use Rattle.kinds.specs.Outcomes.{rule, firstOf, Outcome, gives, after, unlessShort}
-use Rattle.kinds.specs.CodePlaces.{Span, span}
+use Rattle.kinds.specs.Outcomes.{rule, firstOf}
 use Rattle.coded.specs.declared.variants.MaxLength.{MaxLength}
 use Rattle.coded.specs.declared.variants.MaxLength.the-variants.{Most, Unlimited}
 use Rattle.coded.specs.declared.variants.Termination.{Termination}
@@ -54,10 +53,6 @@ endsWithZero EndOfPdu = false
 endsWithZero Zero = true
 endsWithZero HexFF = false
 
--- the bytes up to an end; 30: fewer than min of them, in a payload of n
-abbrev pub atLeast : ℕ → ℕ → ℕ → ℕ → Outcome Span
-atLeast least end at n = unlessShort (ltb (end - at) least) (saturatingSum at least) n (gives (span at (8 * (end - at))))
-
 module _ (m : MinMaxLengthType) (unicode : Bool) (payload : List ℕ) (at : ℕ) where
   abbrev pub minMaxEnd : ℕ
   minMaxEnd = endBy (m .termination) unicode payload at (m .«min_length») (maxEnd (m .«max_length») at (length payload))
@@ -65,7 +60,3 @@ module _ (m : MinMaxLengthType) (unicode : Bool) (payload : List ℕ) (at : ℕ)
   -- 34: the scan with Zero ends past the payload
   abbrev pub scanRefusal : Check
   scanRefusal = firstOf (rule (endsWithZero (m .termination) && ltb (length payload) minMaxEnd) ScanPastPayload ∷ [])
-
-  -- 34, 30 for fewer than min bytes, and where the data bytes are
-  abbrev pub minMaxPlace : Outcome Span
-  minMaxPlace = after scanRefusal (atLeast (m .«min_length») minMaxEnd at (length payload))

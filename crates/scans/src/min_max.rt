@@ -1,10 +1,11 @@
 // Data bytes between limits, up to a terminator or the payload's end.
 ghost use mathlib.Core.Path.{_≡_};
 ghost use mathlib.Core.Bool.{true, false};
-ghost use Prim.Native.Nat.{_+_, _-_, _*_, _/_, _≤_, _<_};
+ghost use Prim.Native.Nat.{_+_, _-_, _/_, _≤_, _<_};
 ghost use lib.ListN.{length};
 ghost use Rattle.kinds.specs.CodePlaces.{outcomeOfSearch};
-ghost use Rattle.scans.specs.MinMax.{maxEnd, hasAt, stopsAt, scan, scanned, atLeast, minMaxPlace};
+ghost use Rattle.scans.specs.MinMax.{maxEnd, hasAt, stopsAt, scan, scanned};
+ghost use Rattle.scans.specs.CodePlace.{atLeast, minMaxPlace};
 use coded::MaxLength;
 use coded::MinMaxLengthType;
 use coded::Termination;

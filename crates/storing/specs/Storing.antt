@@ -1,8 +1,8 @@
 -- Document 01, 'Stored table': the record of a coded type.
 use Prim.Native.Nat.{ℕ, _+_, _*_, _/_, _%_}
-use mathlib.Core.Bool.{Bool, true, false, cond, _||_}
+use mathlib.Core.Bool.{Bool, true, false, cond}
 use mathlib.Core.List.{List, [], _∷_}
-use lib.Dec.{eqb, ltb}
+use lib.Dec.{ltb}
 use Rattle.kinds.specs.declared.refusals.Refusal.the-variants.{MalformedRecord}
 use Rattle.kinds.specs.declared.refusals.Check.{Check}
 use Rattle.kinds.specs.Answers.{wrote}

@@ -6,7 +6,7 @@ use lib.ListN.{length, getD}
 use lib.Dec.{eqb, ltb, leb}
 use Rattle.kinds.specs.declared.refusals.Refusal.the-variants.{MalformedRecord, SliceTooLong, MalformedTable}
 use Rattle.kinds.specs.Outcomes.{rule, firstOf, Outcome, gives, refuses, after, following}
-use Rattle.kinds.specs.Slices.{cut}
+use Rattle.kinds.specs.Slices.{sliceLimit, storeLimit, cut}
 use Rattle.coded.specs.declared.coded_type.DiagCodedType.{DiagCodedType}
 use Rattle.field.specs.Refusals.{descriptionRefusal}
 use Rattle.record.specs.Numbers.{be16, recordSize}
@@ -43,7 +43,7 @@ isWrong table h =
     ltb (length table) headerSize
     || not (isMarked table)
     || ltb 1024 (h .count)
-    || ltb 32768 (h .«store_len»)
+    || ltb storeLimit (h .«store_len»)
     || not (eqb (length table) (totalSize h))
 
 abbrev pub headerOf : List ℕ → OptionalHeader
@@ -68,7 +68,7 @@ fetchedUnder table number header.Malformed = refuses MalformedTable
 
 -- 43, 45, then the record's own
 unfoldable pub fetched : List ℕ → ℕ → Outcome Entry
-fetched table number = after (firstOf (rule (ltb 65535 (length table)) SliceTooLong ∷ [])) (fetchedUnder table number (headerOf table))
+fetched table number = after (firstOf (rule (ltb sliceLimit (length table)) SliceTooLong ∷ [])) (fetchedUnder table number (headerOf table))
 
 -- the answers of the code
 abbrev pub outcomeOfFetched : Fetched → Outcome Entry

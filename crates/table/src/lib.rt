@@ -6,6 +6,8 @@ ghost use Rattle.table.specs.Table.{headerSize, recordPlace, totalSize, 
 use coded::DiagCodedType;
 use kinds::Check;
 use kinds::Refusal;
+use kinds::SLICE_LIMIT;
+use kinds::STORE_LIMIT;
 use record::OptionalCoded;
 use record::RECORD_SIZE;
 use record::parse;
@@ -79,7 +81,7 @@ fn read_header(table: &[u8]) -> OptionalHeader
     if 1024 < count {
         return OptionalHeader::Malformed;
     }
-    if 32768 < store_len {
+    if STORE_LIMIT < store_len {
         return OptionalHeader::Malformed;
     }
     let total = record_place(count) + store_len;
@@ -122,7 +124,7 @@ fn fetch_record(table: &[u8], header: Header, number: usize) -> Fetched
 pub fn fetch(table: &[u8], number: usize) -> Fetched
     ensures { λ r. ⌜ outcomeOfFetched r ≡ fetched (now (table .entry)) number ⌝ }
 {
-    if 65535 < table.len() {
+    if SLICE_LIMIT < table.len() {
         return Fetched::Refused(Refusal::SliceTooLong);
     }
     match read_header(table) {

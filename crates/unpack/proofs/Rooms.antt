@@ -9,7 +9,7 @@ use Rattle.kinds.specs.declared.types.ByteCount.{ByteCount}
 use Rattle.kinds.specs.declared.refusals.Refusal.the-variants.{OutputLacksRoom}
 use Rattle.kinds.specs.declared.refusals.Check.the-variants.{Passed}
 use Rattle.kinds.specs.Answers.{refused, read}
-use Rattle.kinds.specs.Outcomes.{gives, Answer, answer}
+use Rattle.kinds.specs.Outcomes.{gives, answer}
 use Rattle.unpack.specs.Found.{Found, readAnswer}
 use Rattle.unpack.specs.Unpacked.{unpackRefusal}
 

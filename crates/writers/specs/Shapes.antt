@@ -51,9 +51,9 @@ module _ (o : ByteOrder) (input : List ℕ) (p : Payload) (at pos : ℕ) where
   shapeEncoded t shape.Param mask = paramEncoded
 
 -- 20, and then the variant's own
-abbrev pub fieldEncoded : Field → List ℕ → Payload → ℕ → ℕ → Outcome Payload
-fieldEncoded f input p at pos = after (bitPositionRefusal (f .type) pos) (shapeEncoded (f .order) input p at pos (f .type) (f .shape) (f .mask))
+abbrev pub fieldEncoding : Field → List ℕ → Payload → ℕ → ℕ → Outcome Payload
+fieldEncoding f input p at pos = after (bitPositionRefusal (f .type) pos) (shapeEncoded (f .order) input p at pos (f .type) (f .shape) (f .mask))
 
 -- a field written at a byte position and a bit position
 abbrev pub encodeOf : Field → List ℕ → Payload → ℕ → ℕ → Answer Payload
-encodeOf f input p at pos = writeAnswer p (fieldEncoded f input p at pos)
+encodeOf f input p at pos = writeAnswer p (fieldEncoding f input p at pos)

@@ -1,7 +1,7 @@
 -- `dct::dct_fetch` meets its contract.
 use Rattle.dct.specs.Boundary.{placesOf, placesFetched}
 use Rattle.table.specs.declared.Entry.{Entry}
-use Rattle.kinds.specs.Outcomes.{Outcome, answer, concluded}
+use Rattle.kinds.specs.Outcomes.{answer, concluded}
 use Rattle.kinds.specs.Answers.{wrote, numbered}
 use Prim.Native.Nat.{ℕ}
 use mathlib.Core.List.{[], _∷_}

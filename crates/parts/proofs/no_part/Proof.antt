@@ -1,5 +1,4 @@
 -- `parts::no_part` meets its contract.
-use mathlib.Core.Path.{ap}
 use borrow.Author.Needs.{needs}
 use Rattle.parts.proofs.no_part.Statement.{statement}
 use Rattle.parts.proofs.no_part.Tie as tie

@@ -1,7 +1,6 @@
 -- `calls::decode_with_runtime_byte_length` meets its contract.
 use Rattle.calls.specs.Calls.{runtimeRead}
 use Rattle.field.proofs.Slices.{slices-fit}
-use native.Mathlib.Omega.{arith}
 use lib.ListN.{length}
 use mathlib.Core.Path.{sym, _∙_}
 use borrow.Author.Needs.{needs}

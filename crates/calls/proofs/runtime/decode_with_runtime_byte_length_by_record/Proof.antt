@@ -2,7 +2,6 @@
 use Rattle.calls.proofs.Ways.{led, recorded-fit}
 use Rattle.parts.specs.Part.{partAnswer}
 use Rattle.calls.specs.Calls.{runtimeRead}
-use native.Mathlib.Omega.{arith}
 use mathlib.Core.Path.{_∙_}
 use lib.ListN.{length}
 use borrow.Author.Needs.{needs}

@@ -2,10 +2,8 @@
 use Rattle.calls.specs.Calls.{keyName}
 use Rattle.field.specs.Field.{partAt}
 use Rattle.kinds.specs.Outcomes.{answer}
-use Rattle.kinds.specs.Answers.{numbered, wrote}
-use mathlib.Core.List.{[]}
-use Prim.Native.Nat.{ℕ}
-use mathlib.Core.Path.{_≡_, sym, ap, _∙_}
+use Rattle.kinds.specs.Answers.{wrote}
+use mathlib.Core.Path.{sym, ap, _∙_}
 use borrow.Author.Needs.{needs}
 use Rattle.calls.proofs.runtime.length_key_name.Statement.{statement}
 use Rattle.calls.proofs.runtime.length_key_name.Tie as tie

@@ -5,7 +5,7 @@ use Rattle.masks.specs.Mask.{noMask}
 use Rattle.kinds.specs.Outcomes.{Outcome}
 use Rattle.kinds.specs.CodePlaces.{Span}
 use Rattle.unpack.specs.Found.{readAnswer}
-use Rattle.scans.specs.MinMax.{minMaxPlace}
+use Rattle.scans.specs.CodePlace.{minMaxPlace}
 use Rattle.readers.specs.CodeReading.{readAt}
 use Rattle.readers.proofs.Findings.{min-max-read}
 use borrow.Author.Needs.{needs}

@@ -1,6 +1,5 @@
 -- `readers::unpack_found` meets its contract.
 use Rattle.unpack.specs.Found.{readAnswer}
-use mathlib.Core.Path.{ap}
 use borrow.Author.Needs.{needs}
 use Rattle.readers.proofs.variants.unpack_found.Statement.{statement}
 use Rattle.readers.proofs.variants.unpack_found.Tie as tie

@@ -1,5 +1,5 @@
 -- `record::coded_of` meets its contract.
-use mathlib.Core.Path.{_≡_, refl, sym}
+use mathlib.Core.Path.{_≡_, refl}
 use mathlib.Core.Bool.{true, false}
 use lib.Dec.{eqb}
 use Rattle.record.specs.declared.numbers.Numbers.{Numbers}
