@@ -15,7 +15,7 @@ use Rattle.field.specs.Field.{partAt, storePlace, useOf, shapeOf, field, fieldO
 use Rattle.field.specs.Refusals.{slicesRefusal}
 use Rattle.field.proofs.Slices.{slices-fit}
 use Rattle.record.specs.Parsing.{codedIn}
-use Rattle.record.specs.Calls.{wellFormed, codedByRecord}
+use Rattle.record.specs.Recorded.{wellFormed, codedByRecord}
 
 -- a coded type taken apart is its field
 pub field-by : (t : DiagCodedType) (store : List ℕ) {o : ByteOrder} {s : Shape} {u : MaskUse} {part : List ℕ}

@@ -8,7 +8,7 @@ use Rattle.coded.specs.declared.coded_type.DiagCodedType.{DiagCodedType}
 use Rattle.coded.specs.Getters.{keyNameOf}
 use Rattle.field.specs.Field.{fieldOf, partAt}
 use Rattle.field.specs.Refusals.{slicesRefusal, descriptionRefusal}
-use Rattle.record.specs.Calls.{codedByRecord}
+use Rattle.record.specs.Recorded.{codedByRecord}
 use Rattle.parts.specs.Part.{runtimePart, partAnswer}
 use Rattle.unpack.specs.Found.{readAnswer}
 use Rattle.readers.specs.Finding.{fieldFinding}

@@ -29,9 +29,9 @@ use Rattle.coded.specs.declared.coded_type.Built.{Built}
 use Rattle.coded.specs.declared.coded_type.Built.the-variants as built
 use Rattle.coded.specs.Making.{newMinMax, newCodedType, outcomeOfMinMax, outcomeOfCodedType}
 use Rattle.payload.specs.Payload.{Payload}
-use Rattle.record.specs.declared.calls.Recorded.{Recorded}
-use Rattle.record.specs.declared.calls.Recorded.the-variants as recorded
-use Rattle.record.specs.Calls.{codedByRecord, outcomeOfRecorded}
+use Rattle.record.specs.declared.recorded.Recorded.{Recorded}
+use Rattle.record.specs.declared.recorded.Recorded.the-variants as recorded
+use Rattle.record.specs.Recorded.{codedByRecord, outcomeOfRecorded}
 use Rattle.storing.specs.Storing.{storedRecord}
 use Rattle.table.specs.declared.Fetched.{Fetched}
 use Rattle.table.specs.declared.Fetched.the-variants as fetch

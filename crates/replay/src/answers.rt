@@ -1,8 +1,8 @@
 // A stored answer: read from the standard input, taken apart, and handed to its call.
-use super::calls;
 use super::head::wide;
-use super::parts::part;
-use super::parts::part_mut;
+use super::repeats;
+use super::slices::part;
+use super::slices::part_mut;
 
 pub const END: u8 = 0;
 
@@ -26,16 +26,16 @@ fn replayed(head: [u8; 21], body: &[u8; 1036], copy: &mut [u8]) -> bool {
     let written = part_mut(copy, payload_at, payload_len);
     let call = head[0];
     if call == 1 {
-        return calls::decodes(head, record, store, payload, after);
+        return repeats::decodes(head, record, store, payload, after);
     }
     if call == 2 {
-        return calls::encodes(head, record, store, input, written, payload, after);
+        return repeats::encodes(head, record, store, input, written, payload, after);
     }
     if call == 3 {
-        return calls::clears(head, record, store, written, payload, after);
+        return repeats::clears(head, record, store, written, payload, after);
     }
     if call == 4 {
-        return calls::reads(head, record, store, payload, after);
+        return repeats::reads(head, record, store, payload, after);
     }
     false
 }

@@ -1,7 +1,7 @@
 // Makes the calls of stored answers again: reads the answers from the standard input and prints how many come out the same.
 mod head; // head.rt: the head of a stored answer, taken apart
-mod parts; // parts.rt: parts of bytes, lent
-mod calls; // calls.rt: the four calls, each compared with its stored answer
+mod slices; // slices.rt: parts of bytes, lent
+mod repeats; // repeats.rt: the four calls, each compared with its stored answer
 mod answers; // answers.rt: a stored answer, read and handed to its call
 
 // How many answers were the same, and how many not.

@@ -11,7 +11,7 @@ use Rattle.coded.specs.declared.coded_type.DiagCodedType.{DiagCodedType}
 use Rattle.field.specs.Refusals.{descriptionRefusal}
 use Rattle.record.specs.Numbers.{be16, recordSize}
 use Rattle.record.specs.Parsing.{codedIn}
-use Rattle.record.specs.Calls.{wellFormed}
+use Rattle.record.specs.Recorded.{wellFormed}
 use Rattle.table.specs.declared.Header.{Header}
 use Rattle.table.specs.declared.OptionalHeader.{OptionalHeader}
 use Rattle.table.specs.declared.OptionalHeader.the-variants as header

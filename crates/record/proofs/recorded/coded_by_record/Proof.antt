@@ -1,8 +1,8 @@
 -- `record::coded_by_record` meets its contract.
 use mathlib.Core.Path.{sym}
 use borrow.Author.Needs.{needs}
-use Rattle.record.proofs.calls.coded_by_record.Statement.{statement}
-use Rattle.record.proofs.calls.coded_by_record.Tie as tie
+use Rattle.record.proofs.recorded.coded_by_record.Statement.{statement}
+use Rattle.record.proofs.recorded.coded_by_record.Tie as tie
 
 validate-slices-requires : tie.Need-validate-slices-requires
 validate-slices-requires c κs = search needs

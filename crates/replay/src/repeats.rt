@@ -3,8 +3,8 @@ use super::head::bit_pos;
 use super::head::byte_pos;
 use super::head::same_numbers;
 use super::head::wide;
-use super::parts::part;
-use super::parts::part_mut;
+use super::slices::part;
+use super::slices::part_mut;
 
 // What no stored number is, so that one left unwritten shows.
 const UNWRITTEN: usize = 2147483648;

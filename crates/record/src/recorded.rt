@@ -1,6 +1,6 @@
 // What a call that takes a record refuses before it has a coded type.
 ghost use mathlib.Core.Path.{_≡_};
-ghost use Rattle.record.specs.Calls.{outcomeOfRecorded, codedByRecord};
+ghost use Rattle.record.specs.Recorded.{outcomeOfRecorded, codedByRecord};
 use super::parsing::OptionalCoded;
 use super::parsing::parse;
 use coded::DiagCodedType;

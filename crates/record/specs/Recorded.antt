@@ -8,8 +8,8 @@ use Rattle.coded.specs.declared.coded_type.DiagCodedType.{DiagCodedType}
 use Rattle.field.specs.Refusals.{slicesRefusal}
 use Rattle.record.specs.declared.parsing.OptionalCoded.{OptionalCoded}
 use Rattle.record.specs.declared.parsing.OptionalCoded.the-variants as coded
-use Rattle.record.specs.declared.calls.Recorded.{Recorded}
-use Rattle.record.specs.declared.calls.Recorded.the-variants as recorded
+use Rattle.record.specs.declared.recorded.Recorded.{Recorded}
+use Rattle.record.specs.declared.recorded.Recorded.the-variants as recorded
 use Rattle.record.specs.Parsing.{codedIn}
 
 -- 42: malformed record
