@@ -1,10 +1,10 @@
 -- `calls::clear_described` meets its contract.
 use Rattle.payload.specs.Payload.{payloadOf}
-use Rattle.calls.proofs.Ways.{field-by}
+use Rattle.calls.proofs.Ways.{of-field}
 use Rattle.clear.specs.Clear.{clearOf}
 use Rattle.field.proofs.Outside.{part-le}
 use Rattle.field.specs.Field.{storePlace, Field}
-use mathlib.Core.Path.{sym, ap, _∙_}
+use mathlib.Core.Path.{sym}
 use borrow.Author.Needs.{needs}
 use Rattle.calls.proofs.clearing.clear_described.Statement.{statement}
 use Rattle.calls.proofs.clearing.clear_described.Tie as tie
@@ -42,7 +42,7 @@ same-length c = search needs
 returns-2 : tie.Need-returns-2
 returns-2 c = let s = c .before .before .before .before .before .before .before .before .before .before .before .before .before .args in
     rw (sym (c .before .before .before .before .before .before .before .before .before .before .validate-description .ensures), c .before .before .before .before .before .before .before .before .enum-told .given .1)
-    (c .before .before .clear-field .ensures ∙ ap (λ (f : Field). clearOf f (payloadOf (s .uds-payload .now) (s .used)) (s .byte-pos) (s .bit-pos)) (field-by (s .coded-type) (s .store .now) (c .before .before .before .before .before .before .before .byte-order .ensures) (c .before .before .before .before .before .before .shape-of .ensures) (c .before .before .before .before .before .use-of .ensures) (c .before .before .before .before .store-part .ensures)))
+    (of-field (λ (f : Field). clearOf f (payloadOf (s .uds-payload .now) (s .used)) (s .byte-pos) (s .bit-pos)) (s .coded-type) (s .store .now) (c .before .before .before .before .before .before .before .byte-order .ensures) (c .before .before .before .before .before .before .shape-of .ensures) (c .before .before .before .before .before .use-of .ensures) (c .before .before .before .before .store-part .ensures) (c .before .before .clear-field .ensures))
 
 pub clear-described-spec : {M : Type 1} → statement M
 clear-described-spec =
