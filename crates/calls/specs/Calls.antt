@@ -7,7 +7,7 @@ use Rattle.kinds.specs.Outcomes.{Outcome, gives, after, following, Answer, answ
 use Rattle.coded.specs.declared.coded_type.DiagCodedType.{DiagCodedType}
 use Rattle.coded.specs.Getters.{keyNameOf}
 use Rattle.field.specs.Field.{fieldOf, partAt}
-use Rattle.field.specs.Refusals.{slicesRefusal, descriptionRefusal}
+use Rattle.field.specs.Refusals.{slicesRefusal}
 use Rattle.record.specs.Recorded.{codedByRecord}
 use Rattle.parts.specs.Part.{runtimePart, partAnswer}
 use Rattle.unpack.specs.Found.{readAnswer}
@@ -15,6 +15,7 @@ use Rattle.readers.specs.Finding.{fieldFinding}
 use Rattle.payload.specs.Payload.{Payload, writeAnswer}
 use Rattle.writers.specs.Shapes.{fieldEncoding}
 use Rattle.clear.specs.Clear.{fieldClearing}
+use Rattle.described.specs.Described.{described}
 
 -- what a call is told of its field: a coded type, or the bytes of a record
 pub data Description : Type 0 where
@@ -26,10 +27,7 @@ abbrev pub codedBy : Description → ℕ → ℕ → ℕ → ℕ → Outcome Dia
 codedBy (byType t) store a b used = after (slicesRefusal 0 store a b used) (gives t)
 codedBy (byRecord bytes) store a b used = codedByRecord bytes store a b used
 
--- 42 of the part of the store, 12, 13, 10, 11, and then the call's own
-abbrev pub described : {A : Type 0} → DiagCodedType → List ℕ → (DiagCodedType → Outcome A) → Outcome A
-described t store own = after (descriptionRefusal t (length store)) (own t)
-
+-- and then 42 of the part of the store, 12, 13, 10, 11, and the call's own
 abbrev pub called : {A : Type 0} → Description → List ℕ → ℕ → ℕ → ℕ → (DiagCodedType → Outcome A) → Outcome A
 called d store a b used own = following (codedBy d (length store) a b used) (λ t. described t store own)
 

@@ -7,48 +7,12 @@ ghost use Rattle.kinds.specs.Outcomes.{answer};
 ghost use Rattle.field.specs.Field.{fieldOf};
 ghost use Rattle.payload.specs.Payload.{payloadOf, writeAnswer};
 ghost use Rattle.writers.specs.Shapes.{fieldEncoding};
-ghost use Rattle.calls.specs.Calls.{byType, byRecord, described, encoded};
+ghost use Rattle.calls.specs.Calls.{byType, byRecord, encoded};
 use coded::DiagCodedType;
+use described::encode_described;
 use kinds::Check;
 use kinds::Writing;
 use record::Recorded;
-
-// After the slices: what the coded type's own description is refused for, and then the field.
-fn encode_described(
-    coded_type: DiagCodedType,
-    store: &[u8],
-    input_data: &[u8],
-    uds_payload: &mut [u8],
-    used: &mut usize,
-    byte_pos: usize,
-    bit_pos: usize,
-) -> Writing
-    requires { ⌜ length (now store) ≤ 65535 ⌝ }
-    requires { ⌜ length (now «input_data») ≤ 65535 ⌝ }
-    requires { ⌜ length (now «uds_payload») ≤ 65535 ⌝ }
-    requires { ⌜ now used ≤ length (now «uds_payload») ⌝ }
-    ensures { λ r. ⌜ answer (reportOfWriting r) (payloadOf (now («uds_payload» .exit)) (now (used .exit))) ≡ writeAnswer (payloadOf (now («uds_payload» .entry)) (now (used .entry))) (described «coded_type» (now (store .entry)) (λ t. fieldEncoding (fieldOf t (now (store .entry))) (now («input_data» .entry)) (payloadOf (now («uds_payload» .entry)) (now (used .entry))) «byte_pos» «bit_pos»)) ⌝ }
-{
-    match field::validate_description(coded_type, store.len()) {
-        Check::Refused(refusal) => Writing::Refused(refusal),
-        Check::Passed => {
-            let base_datatype = coded_type.base_datatype;
-            let type_ = coded_type.type_;
-            writers::encode_field(
-                base_datatype,
-                base_datatype.byte_order(coded_type.is_high_low_byte_order),
-                field::shape_of(type_),
-                field::use_of(type_),
-                field::store_part(store, type_),
-                input_data,
-                uds_payload,
-                used,
-                byte_pos,
-                bit_pos,
-            )
-        }
-    }
-}
 
 // Writes the input as a field at a byte position and a bit position of the payload, of which `used` bytes are used. The
 // payload grows in its slice where the field ends past them.

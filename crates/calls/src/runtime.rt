@@ -6,30 +6,12 @@ ghost use lib.ListN.{length};
 ghost use Rattle.kinds.specs.Answers.{numbered};
 ghost use Rattle.kinds.specs.Outcomes.{answer};
 ghost use Rattle.parts.specs.Part.{runtimePart, partAnswer};
-ghost use Rattle.calls.specs.Calls.{byType, byRecord, described, runtimeRead, keyName};
+ghost use Rattle.calls.specs.Calls.{byType, byRecord, runtimeRead, keyName};
 use coded::DiagCodedType;
+use described::part_described;
 use kinds::ByteCount;
 use kinds::Check;
 use record::Recorded;
-
-// After the slices: what the coded type's own description is refused for, and then the part.
-fn part_described<'a>(
-    coded_type: DiagCodedType,
-    store: &[u8],
-    uds_payload: &'a [u8],
-    byte_pos: usize,
-    byte_count: ByteCount,
-    number: &mut u32,
-    report: &mut [usize; 4],
-) -> &'a [u8]
-    requires { ⌜ length (now «uds_payload») ≤ 65535 ⌝ }
-    ensures { λ r. ⌜ answer (now (number .exit) ∷ now (report .exit)) (now r) ≡ partAnswer (described «coded_type» (now (store .entry)) (λ t. runtimePart (now («uds_payload» .entry)) «byte_pos» («byte_count» .0))) ⌝ }
-{
-    match field::validate_description(coded_type, store.len()) {
-        Check::Refused(refusal) => parts::no_part(refusal, uds_payload, number, report),
-        Check::Passed => parts::part(uds_payload, byte_pos, byte_count, number, report),
-    }
-}
 
 // Hands back so many bytes of the payload as a part of it, unordered, and beside it the number and the report: bit count, byte
 // count, expected and actual. The part is empty on a refusal.

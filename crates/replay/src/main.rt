@@ -1,8 +1,4 @@
 // Makes the calls of stored answers again: reads the answers from the standard input and prints how many come out the same.
-mod head; // head.rt: the head of a stored answer, taken apart
-mod slices; // slices.rt: parts of bytes, lent
-mod repeats; // repeats.rt: the four calls, each compared with its stored answer
-mod answers; // answers.rt: a stored answer, read and handed to its call
 
 // How many answers were the same, and how many not.
 struct Counts {
@@ -16,16 +12,16 @@ fn counted() -> Counts {
     // A proved loop has to end, and nothing says that the input does.
     let mut turns = u64::MAX;
     while turns > 0 {
-        let verdict = answers::next();
-        if verdict == answers::END {
+        let verdict = stored_answers::next();
+        if verdict == stored_answers::END {
             break;
         }
         turns -= 1;
-        if verdict == answers::SAME {
+        if verdict == stored_answers::SAME {
             same += 1;
         } else {
             other += 1;
-            if verdict == answers::CUT {
+            if verdict == stored_answers::CUT {
                 break;
             }
         }

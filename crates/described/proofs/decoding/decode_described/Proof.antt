@@ -1,13 +1,13 @@
--- `calls::decode_described` meets its contract.
+-- `described::decode_described` meets its contract.
 use Rattle.unpack.specs.Found.{readAnswer}
-use Rattle.calls.proofs.Ways.{of-field}
+use Rattle.described.proofs.Fields.{of-field}
 use Rattle.readers.specs.Finding.{decodeOf}
 use Rattle.field.proofs.Outside.{part-le}
 use Rattle.field.specs.Field.{storePlace, Field}
 use mathlib.Core.Path.{sym}
 use borrow.Author.Needs.{needs}
-use Rattle.calls.proofs.decoding.decode_described.Statement.{statement}
-use Rattle.calls.proofs.decoding.decode_described.Tie as tie
+use Rattle.described.proofs.decoding.decode_described.Statement.{statement}
+use Rattle.described.proofs.decoding.decode_described.Tie as tie
 
 validate-description-requires : tie.Need-validate-description-requires
 validate-description-requires c κs = search needs

@@ -1,13 +1,13 @@
--- `calls::clear_described` meets its contract.
+-- `described::clear_described` meets its contract.
 use Rattle.payload.specs.Payload.{payloadOf}
-use Rattle.calls.proofs.Ways.{of-field}
+use Rattle.described.proofs.Fields.{of-field}
 use Rattle.clear.specs.Clear.{clearOf}
 use Rattle.field.proofs.Outside.{part-le}
 use Rattle.field.specs.Field.{storePlace, Field}
 use mathlib.Core.Path.{sym}
 use borrow.Author.Needs.{needs}
-use Rattle.calls.proofs.clearing.clear_described.Statement.{statement}
-use Rattle.calls.proofs.clearing.clear_described.Tie as tie
+use Rattle.described.proofs.clearing.clear_described.Statement.{statement}
+use Rattle.described.proofs.clearing.clear_described.Tie as tie
 
 validate-description-requires : tie.Need-validate-description-requires
 validate-description-requires c κs = search needs

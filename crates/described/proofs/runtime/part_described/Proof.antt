@@ -1,8 +1,8 @@
--- `calls::part_described` meets its contract.
+-- `described::part_described` meets its contract.
 use mathlib.Core.Path.{sym, _∙_}
 use borrow.Author.Needs.{needs}
-use Rattle.calls.proofs.runtime.part_described.Statement.{statement}
-use Rattle.calls.proofs.runtime.part_described.Tie as tie
+use Rattle.described.proofs.runtime.part_described.Statement.{statement}
+use Rattle.described.proofs.runtime.part_described.Tie as tie
 
 validate-description-requires : tie.Need-validate-description-requires
 validate-description-requires c κs = search needs

@@ -1,0 +1,2 @@
+-- The field that a coded type and its store make.
+pub mod Fields

@@ -1,0 +1,2 @@
+-- What a description is refused for.
+pub mod Described

@@ -1,0 +1,49 @@
+// Encode of a described field.
+ghost use mathlib.Core.Path.{_≡_};
+ghost use Prim.Native.Nat.{_≤_};
+ghost use lib.ListN.{length};
+ghost use Rattle.kinds.specs.Answers.{reportOfWriting};
+ghost use Rattle.kinds.specs.Outcomes.{answer};
+ghost use Rattle.field.specs.Field.{fieldOf};
+ghost use Rattle.payload.specs.Payload.{payloadOf, writeAnswer};
+ghost use Rattle.writers.specs.Shapes.{fieldEncoding};
+ghost use Rattle.described.specs.Described.{described};
+use coded::DiagCodedType;
+use kinds::Check;
+use kinds::Writing;
+
+pub fn encode_described(
+    coded_type: DiagCodedType,
+    store: &[u8],
+    input_data: &[u8],
+    uds_payload: &mut [u8],
+    used: &mut usize,
+    byte_pos: usize,
+    bit_pos: usize,
+) -> Writing
+    requires { ⌜ length (now store) ≤ 65535 ⌝ }
+    requires { ⌜ length (now «input_data») ≤ 65535 ⌝ }
+    requires { ⌜ length (now «uds_payload») ≤ 65535 ⌝ }
+    requires { ⌜ now used ≤ length (now «uds_payload») ⌝ }
+    ensures { λ r. ⌜ answer (reportOfWriting r) (payloadOf (now («uds_payload» .exit)) (now (used .exit))) ≡ writeAnswer (payloadOf (now («uds_payload» .entry)) (now (used .entry))) (described «coded_type» (now (store .entry)) (λ t. fieldEncoding (fieldOf t (now (store .entry))) (now («input_data» .entry)) (payloadOf (now («uds_payload» .entry)) (now (used .entry))) «byte_pos» «bit_pos»)) ⌝ }
+{
+    match field::validate_description(coded_type, store.len()) {
+        Check::Refused(refusal) => Writing::Refused(refusal),
+        Check::Passed => {
+            let base_datatype = coded_type.base_datatype;
+            let type_ = coded_type.type_;
+            writers::encode_field(
+                base_datatype,
+                base_datatype.byte_order(coded_type.is_high_low_byte_order),
+                field::shape_of(type_),
+                field::use_of(type_),
+                field::store_part(store, type_),
+                input_data,
+                uds_payload,
+                used,
+                byte_pos,
+                bit_pos,
+            )
+        }
+    }
+}
