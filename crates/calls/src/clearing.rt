@@ -1,12 +1,8 @@
 // Clear, by a coded type and by its record. Masks are parts of the store.
 ghost use mathlib.Core.Path.{_≡_};
-ghost use Prim.Native.Nat.{_≤_};
-ghost use lib.ListN.{length};
 ghost use Rattle.kinds.specs.Answers.{reportOfWriting};
 ghost use Rattle.kinds.specs.Outcomes.{answer};
-ghost use Rattle.field.specs.Field.{fieldOf};
-ghost use Rattle.payload.specs.Payload.{payloadOf, writeAnswer};
-ghost use Rattle.clear.specs.Clear.{fieldClearing};
+ghost use Rattle.payload.specs.Payload.{payloadOf};
 ghost use Rattle.calls.specs.Calls.{byType, byRecord, clearedField};
 use coded::DiagCodedType;
 use described::clear_described;

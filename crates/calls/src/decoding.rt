@@ -1,12 +1,7 @@
 // Decode, by a coded type and by its record. Masks are parts of the store.
 ghost use mathlib.Core.Path.{_≡_};
-ghost use Prim.Native.Nat.{_≤_};
-ghost use lib.ListN.{length};
 ghost use Rattle.kinds.specs.Answers.{reportOfReading};
 ghost use Rattle.kinds.specs.Outcomes.{answer};
-ghost use Rattle.field.specs.Field.{fieldOf};
-ghost use Rattle.unpack.specs.Found.{readAnswer};
-ghost use Rattle.readers.specs.Finding.{fieldFinding};
 ghost use Rattle.calls.specs.Calls.{byType, byRecord, decoded};
 use coded::DiagCodedType;
 use described::decode_described;

@@ -1,12 +1,8 @@
 // Encode, by a coded type and by its record. Masks are parts of the store.
 ghost use mathlib.Core.Path.{_≡_};
-ghost use Prim.Native.Nat.{_≤_};
-ghost use lib.ListN.{length};
 ghost use Rattle.kinds.specs.Answers.{reportOfWriting};
 ghost use Rattle.kinds.specs.Outcomes.{answer};
-ghost use Rattle.field.specs.Field.{fieldOf};
-ghost use Rattle.payload.specs.Payload.{payloadOf, writeAnswer};
-ghost use Rattle.writers.specs.Shapes.{fieldEncoding};
+ghost use Rattle.payload.specs.Payload.{payloadOf};
 ghost use Rattle.calls.specs.Calls.{byType, byRecord, encoded};
 use coded::DiagCodedType;
 use described::encode_described;

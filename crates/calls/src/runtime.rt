@@ -1,11 +1,8 @@
 // Parts of what was lent: so many bytes of a payload, by a coded type and by its record, and the name of a field's length key.
 ghost use mathlib.Core.Path.{_≡_};
 ghost use mathlib.Core.List.{_∷_};
-ghost use Prim.Native.Nat.{_≤_};
-ghost use lib.ListN.{length};
 ghost use Rattle.kinds.specs.Answers.{numbered};
 ghost use Rattle.kinds.specs.Outcomes.{answer};
-ghost use Rattle.parts.specs.Part.{runtimePart, partAnswer};
 ghost use Rattle.calls.specs.Calls.{byType, byRecord, runtimeRead, keyName};
 use coded::DiagCodedType;
 use described::part_described;
