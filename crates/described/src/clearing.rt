@@ -30,7 +30,7 @@ pub fn clear_described(
         Check::Passed => {
             let base_datatype = coded_type.base_datatype;
             let type_ = coded_type.type_;
-            clear::clear_field(
+            codec::clear_field(
                 base_datatype,
                 base_datatype.byte_order(coded_type.is_high_low_byte_order),
                 field::shape_of(type_),

@@ -7,12 +7,10 @@ ghost use Rattle.kinds.specs.Outcomes.{gives, after, answer};
 ghost use Rattle.kinds.specs.CodePlaces.{span, outcomeOfSearch};
 ghost use Rattle.kinds.specs.Refusals.{bitLengthRefusal};
 ghost use Rattle.masks.specs.Mask.{noMask, maskOf};
-ghost use Rattle.field.specs.Field.{field};
 ghost use Rattle.unpack.specs.Found.{readAnswer};
-ghost use Rattle.readers.specs.Finding.{standardFinding, leadingFinding, minMaxFinding, shapeFinding, decodeOf};
+ghost use Rattle.readers.specs.Finding.{standardFinding, leadingFinding, minMaxFinding};
 ghost use Rattle.readers.specs.CodeReading.{readBits, readAt};
 use coded::MinMaxLengthType;
-use field::Shape;
 use kinds::BitLength;
 use kinds::ByteCount;
 use kinds::ByteOrder;
@@ -20,7 +18,6 @@ use kinds::Check;
 use kinds::DataType;
 use kinds::PosInfo;
 use kinds::Reading;
-use kinds::Refusal;
 use masks::MaskUse;
 
 fn unpack_at(
@@ -113,7 +110,7 @@ fn unpack_data_bytes(
     )
 }
 
-fn decode_leading_len(
+pub fn decode_leading_len(
     base_datatype: DataType,
     bits: BitLength,
     payload: &[u8],
@@ -134,7 +131,7 @@ fn decode_leading_len(
     unpack_data_bytes(pos_info, payload, byte_order, output)
 }
 
-fn decode_min_max_len(
+pub fn decode_min_max_len(
     base_datatype: DataType,
     limits: MinMaxLengthType,
     payload: &[u8],
@@ -163,7 +160,7 @@ fn pos_info_standard_len(base_datatype: DataType, byte_pos: usize, bit_length: B
     }
 }
 
-fn decode_standard_len(
+pub fn decode_standard_len(
     base_datatype: DataType,
     bit_length: BitLength,
     mask_use: MaskUse,
@@ -188,73 +185,4 @@ fn decode_standard_len(
         byte_order,
         output,
     )
-}
-
-fn decode_shape(
-    base_datatype: DataType,
-    byte_order: ByteOrder,
-    shape: Shape,
-    mask_use: MaskUse,
-    mask: &[u8],
-    payload: &[u8],
-    byte_pos: usize,
-    bit_pos: usize,
-    output: &mut [u8],
-) -> Reading
-    requires { ⌜ length (now mask) ≤ 65535 ⌝ }
-    requires { ⌜ length (now payload) ≤ 65535 ⌝ }
-    ensures { λ r. ⌜ answer (reportOfReading r) (now (output .exit)) ≡ readAnswer (now (output .entry)) (shapeFinding «base_datatype» «byte_order» shape (maskOf «mask_use» (now (mask .entry))) (now (payload .entry)) «byte_pos» «bit_pos») ⌝ }
-{
-    match shape {
-        Shape::Leading(bits) => {
-            decode_leading_len(base_datatype, bits, payload, byte_pos, byte_order, output)
-        }
-        Shape::MinMax(limits) => {
-            decode_min_max_len(base_datatype, limits, payload, byte_pos, byte_order, output)
-        }
-        Shape::Standard(bits) => decode_standard_len(
-            base_datatype,
-            bits,
-            mask_use,
-            mask,
-            payload,
-            byte_pos,
-            bit_pos,
-            byte_order,
-            output,
-        ),
-        Shape::Param => Reading::Refused(Refusal::RuntimeLengthNeeded),
-    }
-}
-
-// Reads a field at a byte position and a bit position into the output.
-pub fn decode_field(
-    base_datatype: DataType,
-    byte_order: ByteOrder,
-    shape: Shape,
-    mask_use: MaskUse,
-    mask: &[u8],
-    payload: &[u8],
-    byte_pos: usize,
-    bit_pos: usize,
-    output: &mut [u8],
-) -> Reading
-    requires { ⌜ length (now mask) ≤ 65535 ⌝ }
-    requires { ⌜ length (now payload) ≤ 65535 ⌝ }
-    ensures { λ r. ⌜ answer (reportOfReading r) (now (output .exit)) ≡ decodeOf (field «base_datatype» «byte_order» shape (maskOf «mask_use» (now (mask .entry)))) (now (payload .entry)) «byte_pos» «bit_pos» (now (output .entry)) ⌝ }
-{
-    match base_datatype.validate_bit_pos(bit_pos) {
-        Check::Refused(refusal) => Reading::Refused(refusal),
-        Check::Passed => decode_shape(
-            base_datatype,
-            byte_order,
-            shape,
-            mask_use,
-            mask,
-            payload,
-            byte_pos,
-            bit_pos,
-            output,
-        ),
-    }
 }

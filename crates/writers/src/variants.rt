@@ -4,16 +4,14 @@ ghost use mathlib.Core.Bool.{cond};
 ghost use Prim.Native.Nat.{_^_, _<_, _≤_};
 ghost use lib.ListN.{length};
 ghost use Rattle.masks.specs.Mask.{noMask, maskOf};
-ghost use Rattle.field.specs.Field.{field};
 ghost use Rattle.pack.specs.Source.{bytesSource, terminated};
 ghost use Rattle.pack.specs.CodePacking.{packedSource};
 ghost use Rattle.kinds.specs.Answers.{reportOfWriting};
 ghost use Rattle.kinds.specs.Outcomes.{answer};
 ghost use Rattle.payload.specs.Payload.{payloadOf, writeAnswer};
 ghost use Rattle.payload.specs.Writing.{writing};
-ghost use Rattle.writers.specs.Shapes.{standardEncoded, leadingEncoded, minMaxEncoded, paramEncoded, shapeEncoded, encodeOf};
+ghost use Rattle.writers.specs.Shapes.{standardEncoded, leadingEncoded, minMaxEncoded, paramEncoded};
 use coded::Termination;
-use field::Shape;
 use kinds::BitLength;
 use kinds::ByteCount;
 use kinds::ByteOrder;
@@ -27,7 +25,7 @@ use lengths::validate_standard;
 use masks::MaskUse;
 use pack::Packing;
 
-fn encode_standard_len(
+pub fn encode_standard_len(
     base_datatype: DataType,
     bit_len: BitLength,
     described_use: MaskUse,
@@ -98,7 +96,7 @@ fn write_bytes(
 }
 
 // The length field, big-endian, and then the input.
-fn encode_leading_length(
+pub fn encode_leading_length(
     bit_len: BitLength,
     input: &[u8],
     byte_order: ByteOrder,
@@ -156,7 +154,7 @@ fn terminator_len(is_unicode: bool) -> usize
     1
 }
 
-fn encode_min_max_len(
+pub fn encode_min_max_len(
     is_unicode: bool,
     termination: Termination,
     input: &[u8],
@@ -202,7 +200,7 @@ fn encode_min_max_len(
     }
 }
 
-fn encode_param_len(
+pub fn encode_param_len(
     input: &[u8],
     byte_order: ByteOrder,
     payload: &mut [u8],
@@ -219,92 +217,4 @@ fn encode_param_len(
         return Writing::Written;
     }
     write_terminated(0, 0, input, byte_order, payload, used, byte_pos, bit_pos)
-}
-
-fn encode_shape(
-    base_datatype: DataType,
-    byte_order: ByteOrder,
-    shape: Shape,
-    mask_use: MaskUse,
-    mask: &[u8],
-    input: &[u8],
-    payload: &mut [u8],
-    used: &mut usize,
-    byte_pos: usize,
-    bit_pos: usize,
-) -> Writing
-    requires { ⌜ length (now mask) ≤ 65535 ⌝ }
-    requires { ⌜ length (now input) ≤ 65535 ⌝ }
-    requires { ⌜ length (now payload) ≤ 65535 ⌝ }
-    requires { ⌜ now used ≤ length (now payload) ⌝ }
-    ensures { λ r. ⌜ answer (reportOfWriting r) (payloadOf (now (payload .exit)) (now (used .exit))) ≡ writeAnswer (payloadOf (now (payload .entry)) (now (used .entry))) (shapeEncoded «byte_order» (now (input .entry)) (payloadOf (now (payload .entry)) (now (used .entry))) «byte_pos» «bit_pos» «base_datatype» shape (maskOf «mask_use» (now (mask .entry)))) ⌝ }
-{
-    match shape {
-        Shape::Leading(bits) => {
-            encode_leading_length(bits, input, byte_order, payload, used, byte_pos, bit_pos)
-        }
-        Shape::MinMax(limits) => {
-            let termination = limits.termination;
-            encode_min_max_len(
-                base_datatype.is_unicode(),
-                termination,
-                input,
-                byte_order,
-                payload,
-                used,
-                byte_pos,
-                bit_pos,
-            )
-        }
-        Shape::Standard(bits) => encode_standard_len(
-            base_datatype,
-            bits,
-            mask_use,
-            mask,
-            input,
-            byte_order,
-            payload,
-            used,
-            byte_pos,
-            bit_pos,
-        ),
-        Shape::Param => encode_param_len(input, byte_order, payload, used, byte_pos, bit_pos),
-    }
-}
-
-// Writes the input as a field at a byte position and a bit position of the payload, of which `used` bytes are used. The
-// payload grows in its slice where the field ends past them.
-pub fn encode_field(
-    base_datatype: DataType,
-    byte_order: ByteOrder,
-    shape: Shape,
-    mask_use: MaskUse,
-    mask: &[u8],
-    input: &[u8],
-    payload: &mut [u8],
-    used: &mut usize,
-    byte_pos: usize,
-    bit_pos: usize,
-) -> Writing
-    requires { ⌜ length (now mask) ≤ 65535 ⌝ }
-    requires { ⌜ length (now input) ≤ 65535 ⌝ }
-    requires { ⌜ length (now payload) ≤ 65535 ⌝ }
-    requires { ⌜ now used ≤ length (now payload) ⌝ }
-    ensures { λ r. ⌜ answer (reportOfWriting r) (payloadOf (now (payload .exit)) (now (used .exit))) ≡ encodeOf (field «base_datatype» «byte_order» shape (maskOf «mask_use» (now (mask .entry)))) (now (input .entry)) (payloadOf (now (payload .entry)) (now (used .entry))) «byte_pos» «bit_pos» ⌝ }
-{
-    match base_datatype.validate_bit_pos(bit_pos) {
-        Check::Refused(refusal) => Writing::Refused(refusal),
-        Check::Passed => encode_shape(
-            base_datatype,
-            byte_order,
-            shape,
-            mask_use,
-            mask,
-            input,
-            payload,
-            used,
-            byte_pos,
-            bit_pos,
-        ),
-    }
 }

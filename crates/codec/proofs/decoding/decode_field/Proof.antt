@@ -1,9 +1,9 @@
--- `readers::decode_field` meets its contract.
+-- `codec::decode_field` meets its contract.
 use Rattle.unpack.specs.Found.{readAnswer}
 use mathlib.Core.Path.{sym}
 use borrow.Author.Needs.{needs}
-use Rattle.readers.proofs.variants.decode_field.Statement.{statement}
-use Rattle.readers.proofs.variants.decode_field.Tie as tie
+use Rattle.codec.proofs.decoding.decode_field.Statement.{statement}
+use Rattle.codec.proofs.decoding.decode_field.Tie as tie
 
 validate-bit-pos-requires : tie.Need-validate-bit-pos-requires
 validate-bit-pos-requires c κs = search needs

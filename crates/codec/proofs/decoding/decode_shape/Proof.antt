@@ -1,8 +1,8 @@
--- `readers::decode_shape` meets its contract.
+-- `codec::decode_shape` meets its contract.
 use Rattle.unpack.specs.Found.{readAnswer}
 use borrow.Author.Needs.{needs}
-use Rattle.readers.proofs.variants.decode_shape.Statement.{statement}
-use Rattle.readers.proofs.variants.decode_shape.Tie as tie
+use Rattle.codec.proofs.decoding.decode_shape.Statement.{statement}
+use Rattle.codec.proofs.decoding.decode_shape.Tie as tie
 
 enum-known-shape : tie.Need-enum-known-shape
 enum-known-shape c = search needs

@@ -1,7 +1,7 @@
--- `clear::clear_field` meets its contract.
+-- `codec::clear_field` meets its contract.
 use borrow.Author.Needs.{needs}
-use Rattle.clear.proofs.clearing.clear_field.Statement.{statement}
-use Rattle.clear.proofs.clearing.clear_field.Tie as tie
+use Rattle.codec.proofs.clearing.clear_field.Statement.{statement}
+use Rattle.codec.proofs.clearing.clear_field.Tie as tie
 
 enum-told : tie.Need-enum-told
 enum-told c = search needs

@@ -1,8 +1,8 @@
--- `writers::encode_shape` meets its contract.
+-- `codec::encode_shape` meets its contract.
 use mathlib.Core.Path.{sym}
 use borrow.Author.Needs.{needs}
-use Rattle.writers.proofs.variants.encode_shape.Statement.{statement}
-use Rattle.writers.proofs.variants.encode_shape.Tie as tie
+use Rattle.codec.proofs.encoding.encode_shape.Statement.{statement}
+use Rattle.codec.proofs.encoding.encode_shape.Tie as tie
 
 enum-known-shape : tie.Need-enum-known-shape
 enum-known-shape c = search needs

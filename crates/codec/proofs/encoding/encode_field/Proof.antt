@@ -1,8 +1,8 @@
--- `writers::encode_field` meets its contract.
+-- `codec::encode_field` meets its contract.
 use mathlib.Core.Path.{sym}
 use borrow.Author.Needs.{needs}
-use Rattle.writers.proofs.variants.encode_field.Statement.{statement}
-use Rattle.writers.proofs.variants.encode_field.Tie as tie
+use Rattle.codec.proofs.encoding.encode_field.Statement.{statement}
+use Rattle.codec.proofs.encoding.encode_field.Tie as tie
 
 validate-bit-pos-requires : tie.Need-validate-bit-pos-requires
 validate-bit-pos-requires c κs = search needs
