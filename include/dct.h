@@ -55,6 +55,14 @@ enum {
     DCT_MALFORMED_TABLE = 45                  /* the table's mark, version, count, store length or total size is wrong */
 };
 
+/* The class of a number, a letter. The first three are the errors of the Rust that the library follows. */
+enum {
+    DCT_CLASS_BAD_PAYLOAD = 'B',      /* the description, a position, the payload or the input does not fit */
+    DCT_CLASS_NOT_ENOUGH_DATA = 'N',  /* the payload is too short */
+    DCT_CLASS_INVALID_DATABASE = 'D', /* the description asks for what its variant cannot do */
+    DCT_CLASS_OURS = 'P'              /* no error of the Rust: room, slices, records, tables, clear */
+};
+
 /* What a call reports besides its number; it is written on every call. The counts are 0 unless something was read, expected
  * and actual are 0 unless the number is DCT_NOT_ENOUGH_DATA. */
 struct dct_report {
@@ -104,6 +112,10 @@ uint32_t dct_read(const uint8_t *record, size_t record_length,
 uint32_t dct_fetch(const uint8_t *table, size_t table_length,
                    size_t number,
                    size_t places[3]);
+
+/* Answers the class of a number that a call answered, one of DCT_CLASS_..., and 0 for DCT_OK and for what is no number of a
+ * refusal. */
+uint32_t dct_class(uint32_t number);
 
 #ifdef __cplusplus
 }

@@ -1,6 +1,7 @@
 /* Calls the library as C can: every value of each byte of a record, and records of bytes drawn at random; every length of each
  * slice from 0 to past its limit; positions up to the largest number. Sees that each call ends in an answer or in a refusal
- * that document 01 knows, that the limits are refused just where they are passed, and that a refusal changes nothing.
+ * that docs/RULES.md knows, that the limits are refused just where they are passed, that a refusal changes nothing, and that each
+ * number has its class.
  *
  * Each slice ends where a page ends that cannot be touched, so a byte read or written past it stops the program.
  */
@@ -65,7 +66,7 @@ static int is_known(uint32_t answer)
 static void judge(uint32_t answer, const struct dct_report *report)
 {
     calls++;
-    hold(is_known(answer), "a number that document 01 does not have", answer);
+    hold(is_known(answer), "a number that the table of refusals does not have", answer);
     counted[answer]++;
     if (answer != DCT_OK)
         hold(report->bit_count == 0 && report->byte_count == 0, "a refusal with counts", answer);
@@ -308,6 +309,36 @@ static void tables_too(void)
     }
 }
 
+/* The column of classes of RULES 10. */
+static uint32_t class_of(uint32_t number)
+{
+    if (number == 10 || number == 37)
+        return DCT_CLASS_INVALID_DATABASE;
+    if (number == 30)
+        return DCT_CLASS_NOT_ENOUGH_DATA;
+    if (number >= 39 && number <= 45)
+        return DCT_CLASS_OURS;
+    return number != DCT_OK && is_known(number) ? DCT_CLASS_BAD_PAYLOAD : 0;
+}
+
+static void classify(uint32_t number)
+{
+    calls++;
+    hold(dct_class(number) == class_of(number), "another class than RULES 10 gives it", number);
+}
+
+/* The numbers 70 below and 70 above each power of two, 0 and 2^32 too, which wraps; and numbers drawn at random. */
+static void every_class(int count)
+{
+    uint32_t bit, near;
+    int i;
+    for (bit = 0; bit <= 32; bit++)
+        for (near = 0; near <= 140; near++)
+            classify((bit < 32 ? (uint32_t)1 << bit : 0) - 70 + near);
+    for (i = 0; i < count; i++)
+        classify((uint32_t)(drawn() >> (drawn() % 64)));
+}
+
 int main(void)
 {
     uint32_t number;
@@ -316,9 +347,10 @@ int main(void)
     records_at_random(1000000);
     every_length();
     tables_too();
+    every_class(1000000);
     for (number = 0; number < 256; number++)
         if (is_known(number))
             hold(counted[number] > 0, "a number that no call gave", number);
-    printf("boundary: %" PRIu64 " calls, every one answered, each number of document 01 among them\n", calls);
+    printf("boundary: %" PRIu64 " calls, every one answered, each number of the table among them\n", calls);
     return 0;
 }

@@ -15,7 +15,7 @@
 #include "changing.h"
 
 /* What is demanded: (a) to (d) of docs/CHANGING.md, and more than that from (e) on. */
-enum { A_ENCODE, A_USED, A_CLEAR, G_LENT, B_ANEW, C_ALONE, F_UNOWNED };
+enum { A_ENCODE, A_USED, A_CLEAR, G_LENT, H_BEHIND, B_ANEW, C_ALONE, F_UNOWNED };
 enum { D_COUNTS = F_UNOWNED + 1, D_BITS, D_REST, E_ZEROS, E_OVER, E_CLEAR, ALL_HOLD };
 
 static const char *const statements[ALL_HOLD] = {
@@ -23,6 +23,7 @@ static const char *const statements[ALL_HOLD] = {
     [A_USED] = "(a) an encode keeps the used length",
     [A_CLEAR] = "(a) a clear gives 0 and counts nothing",
     [G_LENT] = "(g) nothing is written outside what is lent",
+    [H_BEHIND] = "(h) the bytes behind the used ones stay",
     [B_ANEW] = "(b) changing a field equals building anew",
     [C_ALONE] = "(c) changing a field changes its own bits alone",
     [F_UNOWNED] = "(f) bits that no field owns stay 0 when a list is built",
@@ -47,6 +48,8 @@ static const char *const kinds[KINDS] = {
     [EMPTY] = "empty masks",
     [NOTHING] = "owning nothing",
     [LARGEST] = "payloads of 65535 bytes",
+    [SOME_BEHIND] = "with bytes behind the used ones",
+    [LARGEST_BEHIND] = "with all the room that a slice can have",
     [BACK_LOW] = "read back below a byte at bit 0",
     [BACK_HIGH] = "read back below a byte at other bits",
     [BACK_TURNED] = "read back low-high, several bytes",
@@ -67,9 +70,12 @@ static const struct {
     [SETS_AFTER_DECODE] = {E_ZEROS, "an encode that sets a bit beside its own after a decode"},
     [LEAVES_TURNED] = {B_ANEW, "an encode that leaves the bits between its own turned"},
     [GROWS] = {A_USED, "an encode that uses a byte more"},
+    [GROWS_TO_ROOM] = {A_USED, "an encode that uses all of the slice"},
     [REFUSES] = {A_ENCODE, "an encode refused now and then"},
     [TELLS_NOTHING] = {A_ENCODE, "an encode that writes no report"},
     [WRITES_BEFORE] = {G_LENT, "an encode that writes the byte before the payload"},
+    [WRITES_BEHIND] = {H_BEHIND, "an encode that writes the byte behind the used ones"},
+    [ZEROES_BEHIND] = {H_BEHIND, "an encode that zeroes all bytes behind the used ones"},
     [COUNTS_FROM_END] = {C_ALONE, "an encode and a clear that count bytes from the payload's end"},
     [CLEARS_NOTHING] = {B_ANEW, "a clear that clears nothing"},
     [KEEPS_MASKED] = {E_CLEAR, "a clear that clears nothing under a mask"},
@@ -78,6 +84,7 @@ static const struct {
     [REFUSES_CLEAR] = {A_CLEAR, "a clear refused now and then"},
     [CLEAR_COUNTS] = {A_CLEAR, "a clear that counts"},
     [CLEARS_BEFORE] = {G_LENT, "a clear that writes the byte before the payload"},
+    [CLEARS_BEHIND] = {H_BEHIND, "a clear that writes the last byte of the slice"},
     [COUNTS_MORE] = {D_COUNTS, "a decode that counts a bit more"},
     [COUNTS_LESS] = {D_COUNTS, "a decode that counts a bit less"},
     [READS_MORE] = {D_BITS, "a decode that gives a bit more"},
@@ -87,6 +94,7 @@ static const struct {
     [OWNS_NO_REPETITION] = {B_ANEW, "ownership without a short mask's repetition"},
     [OWNS_LENGTH] = {E_OVER, "ownership of all of the length, mask or not"},
     [OWNS_DECODED] = {B_ANEW, "ownership by the bytes that decode cuts"},
+    [ENDS_BEHIND] = {A_USED, "fields that end behind the used bytes"},
     [ANY_LENGTH] = {D_BITS, "read back without a premise: lengths such as 12"},
     [BITS_ABOVE] = {D_BITS, "read back without a premise: bits above the length"},
     [EMPTY_MASK] = {D_COUNTS, "read back without a premise: an empty mask"},
@@ -119,14 +127,21 @@ static int is_report(const struct dct_report *report, size_t bit_count, size_t b
     return report->bit_count == bit_count && report->byte_count == byte_count && report->expected == 0 && report->actual == 0;
 }
 
+/* Neither before what is lent nor behind what is used. */
+static void hold_around(const uint8_t *payload)
+{
+    hold(is_marked(payload), G_LENT);
+    hold(memcmp(payload + l.used, l.behind, l.room - l.used) == 0, H_BEHIND);
+}
+
 static void put(const struct field *f, const struct value *v, uint8_t *payload)
 {
     struct dct_report report = rubbish;
-    size_t used = l.room;
+    size_t used = l.used;
     uint32_t answer = encode(&l, f, v, payload, &used, &report);
     hold(answer == DCT_OK && is_report(&report, 0, 0), A_ENCODE);
-    hold(used == l.room, A_USED);
-    hold(is_marked(payload), G_LENT);
+    hold(used == l.used, A_USED);
+    hold_around(payload);
 }
 
 static void erase(const struct field *f, uint8_t *payload)
@@ -134,14 +149,14 @@ static void erase(const struct field *f, uint8_t *payload)
     struct dct_report report = rubbish;
     uint32_t answer = clear(&l, f, payload, &report);
     hold(answer == DCT_OK && is_report(&report, 0, 0), A_CLEAR);
-    hold(is_marked(payload), G_LENT);
+    hold_around(payload);
 }
 
 /* The list in an order, with this value for the field that is to be changed. */
 static void build(const size_t *order, const struct value *of_changed, uint8_t *payload)
 {
     size_t i;
-    memset(payload, 0, l.room);
+    memset(payload, 0, l.used);
     for (i = 0; i < l.count; i++)
         put(&l.fields[order[i]], order[i] == l.changed ? of_changed : &l.values[order[i]], payload);
 }
@@ -151,12 +166,12 @@ static void change(const struct field *f, const uint8_t *built, uint8_t *changed
 {
     size_t i;
     int outside = 0, unowned = 0;
-    memcpy(changed, built, l.room);
+    memcpy(changed, built, l.used);
     erase(f, changed);
     put(f, &l.new_value, changed);
     build(l.order_anew, &l.new_value, anew);
-    hold(memcmp(changed, anew, l.room) == 0, B_ANEW);
-    for (i = 0; i < l.room; i++) {
+    hold(memcmp(changed, anew, l.used) == 0, B_ANEW);
+    for (i = 0; i < l.used; i++) {
         outside |= (built[i] ^ changed[i]) & ~own_at(f, i);
         unowned |= built[i] & ~l.taken[i];
     }
@@ -207,7 +222,8 @@ static void read_back(const struct field *f, const struct value *v, uint8_t *pay
     put(f, v, payload);
     memset(output, FILL, length);
     answer = decode(&l, f, payload, output, length, &report);
-    hold(is_marked(output) && is_marked(payload), G_LENT);
+    hold(is_marked(output), G_LENT);
+    hold_around(payload);
     hold(answer == DCT_OK && is_report(&report, f->length, v->length), D_COUNTS);
     hold(memcmp(output, v->bytes, v->length) == 0, D_BITS);
     for (i = v->length; i < length; i++)
@@ -221,22 +237,30 @@ static void write_over(const struct field *f, uint8_t *payload)
 {
     size_t i;
     int own, loose = 0;
-    memset(payload, 0, l.room);
+    memset(payload, 0, l.used);
     put(f, &l.new_value, payload);
-    memcpy(source, payload, l.room);
-    draw_bytes(before, l.room);
-    for (i = 0; i < l.room; i++) {
+    memcpy(source, payload, l.used);
+    draw_bytes(before, l.used);
+    for (i = 0; i < l.used; i++) {
         own = own_at(f, i);
         cleared[i] = (uint8_t)(before[i] & ~own);
         written[i] = (uint8_t)((f->mask_length > 0 ? cleared[i] : before[i]) | (source[i] & own));
         loose |= source[i] & ~own;
     }
     hold(loose == 0, E_ZEROS);
-    memcpy(payload, before, l.room);
+    memcpy(payload, before, l.used);
     put(f, &l.new_value, payload);
-    hold(memcmp(payload, written, l.room) == 0, E_OVER);
+    hold(memcmp(payload, written, l.used) == 0, E_OVER);
     erase(f, payload);
-    hold(memcmp(payload, cleared, l.room) == 0, E_CLEAR);
+    hold(memcmp(payload, cleared, l.used) == 0, E_CLEAR);
+}
+
+/* A slice with room, and old bytes behind those that will be used. */
+static uint8_t *lend_payload(uint8_t *start)
+{
+    uint8_t *payload = lend(start, l.room);
+    memcpy(payload + l.used, l.behind, l.room - l.used);
+    return payload;
 }
 
 static void try_list(void)
@@ -246,9 +270,9 @@ static void try_list(void)
     draw_list(&l);
     lists++;
     f = &l.fields[l.changed];
-    built = lend(payloads[0], l.room);
-    changed = lend(payloads[1], l.room);
-    anew = lend(payloads[2], l.room);
+    built = lend_payload(payloads[0]);
+    changed = lend_payload(payloads[1]);
+    anew = lend_payload(payloads[2]);
     build(l.order, &l.values[l.changed], built);
     change(f, built, changed, anew);
     if (reads_back(f))
@@ -291,7 +315,7 @@ static void show_case(uint64_t seed)
     size_t i;
     printf("changing: after %" PRIu64 " calls (seed %" PRIu64 ") this does not hold: %s\n", failed_at, seed,
            statements[failed]);
-    printf("  payload of %zu bytes\n", l.room);
+    printf("  payload of %zu bytes, with room for %zu\n", l.used, l.room);
     for (i = 0; i < l.count; i++) {
         printf("  field %zu: ", i);
         show_field(&l.fields[i], &l.values[i]);
@@ -301,8 +325,8 @@ static void show_case(uint64_t seed)
     printf("\n");
     show_order("order", l.order);
     show_order("order anew", l.order_anew);
-    show_bytes("  written over in (e):", before, l.room < SHOWN ? l.room : SHOWN);
-    printf(l.room > SHOWN ? " and so on\n" : "\n");
+    show_bytes("  written over in (e):", before, l.used < SHOWN ? l.used : SHOWN);
+    printf(l.used > SHOWN ? " and so on\n" : "\n");
 }
 
 /* Until so many calls are made or a statement fails. */

@@ -23,20 +23,23 @@ struct field {
     uint8_t own[CUT]; /* its own bits of these bytes */
 };
 
-/* Fields with their values, for a payload of so many bytes, and one of them that is to be changed. */
+/* Fields with their values, for a payload of so many used bytes, and one of them that is to be changed. */
 struct list {
-    size_t room, count, changed;
+    size_t used, room; /* the slice has room for more than is used */
+    size_t count, changed;
     struct field fields[FIELDS];
     struct value values[FIELDS], new_value;
     size_t order[FIELDS], order_anew[FIELDS];
     size_t store_length;
     uint8_t store[FIELDS * MASK];
-    uint8_t taken[SLICE]; /* the bits that some field owns */
+    uint8_t taken[SLICE];  /* the bits that some field owns */
+    uint8_t behind[SLICE]; /* the bytes behind the used ones, as they come */
 };
 
 /* Kinds that a run has to meet. */
 enum { OVERLAP, ACROSS, TWELVE, SHORT, LONG, CONDENSED, WHOLE, EMPTY, NOTHING, LARGEST };
-enum { BACK_LOW = LARGEST + 1, BACK_HIGH, BACK_TURNED, BACK_BYTES, KINDS };
+enum { SOME_BEHIND = LARGEST + 1, LARGEST_BEHIND };
+enum { BACK_LOW = LARGEST_BEHIND + 1, BACK_HIGH, BACK_TURNED, BACK_BYTES, KINDS };
 
 extern uint64_t state, met[KINDS];
 
@@ -48,12 +51,13 @@ uint8_t own_at(const struct field *f, size_t at); /* the field's own bits of a b
 
 /* Faults around the library's calls and in what a field owns, and premises that are dropped. */
 enum { NONE, WRITES_NOTHING, KEEPS_UNDER_MASK, CLEARS_FIRST, SETS_MORE, SETS_UNOWNED, SETS_AFTER_DECODE, LEAVES_TURNED };
-enum { GROWS = LEAVES_TURNED + 1, REFUSES, TELLS_NOTHING, WRITES_BEFORE, COUNTS_FROM_END };
+enum { GROWS = LEAVES_TURNED + 1, GROWS_TO_ROOM, REFUSES, TELLS_NOTHING, WRITES_BEFORE, WRITES_BEHIND, ZEROES_BEHIND };
+enum { COUNTS_FROM_END = ZEROES_BEHIND + 1 };
 enum { CLEARS_NOTHING = COUNTS_FROM_END + 1, KEEPS_MASKED, CLEARS_LENGTH, CLEARS_MORE };
-enum { REFUSES_CLEAR = CLEARS_MORE + 1, CLEAR_COUNTS, CLEARS_BEFORE };
-enum { COUNTS_MORE = CLEARS_BEFORE + 1, COUNTS_LESS, READS_MORE, READS_LESS, WRITES_PAST, READS_BEFORE };
-enum { OWNS_NO_REPETITION = READS_BEFORE + 1, OWNS_LENGTH, OWNS_DECODED };
-enum { ANY_LENGTH = OWNS_DECODED + 1, BITS_ABOVE, EMPTY_MASK, OTHER_MASK, PAST_EDGE, ANY_VALUE, FAULTS };
+enum { REFUSES_CLEAR = CLEARS_MORE + 1, CLEAR_COUNTS, CLEARS_BEFORE, CLEARS_BEHIND };
+enum { COUNTS_MORE = CLEARS_BEHIND + 1, COUNTS_LESS, READS_MORE, READS_LESS, WRITES_PAST, READS_BEFORE };
+enum { OWNS_NO_REPETITION = READS_BEFORE + 1, OWNS_LENGTH, OWNS_DECODED, ENDS_BEHIND };
+enum { ANY_LENGTH = ENDS_BEHIND + 1, BITS_ABOVE, EMPTY_MASK, OTHER_MASK, PAST_EDGE, ANY_VALUE, FAULTS };
 
 extern int fault;
 extern uint64_t calls;

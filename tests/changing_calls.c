@@ -106,7 +106,7 @@ static void leave_turned(const struct field *f, uint8_t *payload)
 static void leave_unwritten(const struct list *l, const struct field *f, uint8_t *payload)
 {
     size_t i;
-    for (i = 0; i < l->room; i++)
+    for (i = 0; i < l->used; i++)
         payload[i] = (uint8_t)(f->mask_length > 0 ? old[i] & ~own_at(f, i) : old[i]);
 }
 
@@ -126,23 +126,23 @@ static int refuse(const struct list *l, uint8_t *payload)
 {
     if (calls % REFUSED_EVERY != 0)
         return 0;
-    memcpy(payload, old, l->room);
+    memcpy(payload, old, l->used);
     return 1;
 }
 
 /* Before an encode or a clear. */
 static void prepare_fault(const struct list *l, uint8_t *payload)
 {
-    memcpy(old, payload, l->room);
+    memcpy(old, payload, l->used);
     if (fault == COUNTS_FROM_END)
-        turn(payload, l->room);
+        turn(payload, l->used);
 }
 
 static void spoil_payload(const struct list *l, const struct field *f, uint8_t *payload)
 {
     size_t i, at;
     uint8_t bit = bit_beside(l, f, &at);
-    for (i = 0; fault == KEEPS_UNDER_MASK && i < l->room; i++)
+    for (i = 0; fault == KEEPS_UNDER_MASK && i < l->used; i++)
         payload[i] |= old[i];
     if (fault == WRITES_NOTHING)
         leave_unwritten(l, f, payload);
@@ -151,15 +151,20 @@ static void spoil_payload(const struct list *l, const struct field *f, uint8_t *
     if (fault == LEAVES_TURNED)
         leave_turned(f, payload);
     if (fault == COUNTS_FROM_END)
-        turn(payload, l->room);
+        turn(payload, l->used);
     if (fault == WRITES_BEFORE)
         payload[-1] = 0;
+    if (fault == WRITES_BEHIND && l->room > l->used)
+        payload[l->used] ^= 1;
+    if (fault == ZEROES_BEHIND)
+        memset(payload + l->used, 0, l->room - l->used);
 }
 
 static uint32_t spoil_encode(const struct list *l, const struct field *f, uint8_t *payload, size_t *used, uint32_t answer)
 {
     spoil_payload(l, f, payload);
     *used += fault == GROWS;
+    *used = fault == GROWS_TO_ROOM ? l->room : *used;
     decoded = 0;
     return fault == REFUSES && refuse(l, payload) ? DCT_PAYLOAD_LACKS_ROOM : answer;
 }
@@ -170,13 +175,15 @@ static uint32_t spoil_clear(const struct list *l, const struct field *f, uint8_t
     size_t at;
     uint8_t bit = bit_beside(l, f, &at);
     if (fault == CLEARS_NOTHING || (fault == KEEPS_MASKED && f->mask_length > 0))
-        memcpy(payload, old, l->room);
+        memcpy(payload, old, l->used);
     if (fault == CLEARS_MORE)
         payload[at] &= (uint8_t)~bit;
     if (fault == COUNTS_FROM_END)
-        turn(payload, l->room);
+        turn(payload, l->used);
     if (fault == CLEARS_BEFORE)
         payload[-1] = 0;
+    if (fault == CLEARS_BEHIND && l->room > l->used)
+        payload[l->room - 1] ^= 1;
     report->bit_count += fault == CLEAR_COUNTS ? f->bits : 0;
     return fault == REFUSES_CLEAR && refuse(l, payload) ? DCT_NOT_CLEARABLE : answer;
 }
@@ -205,7 +212,7 @@ uint32_t encode(const struct list *l, const struct field *f, const struct value 
     if (fault != NONE)
         prepare_fault(l, payload);
     if (fault == CLEARS_FIRST && f->mask_length == 0)
-        dct_clear(record(f), RECORD, store(l), l->store_length, payload, l->room, l->room, f->byte_pos, f->bit_pos, told);
+        dct_clear(record(f), RECORD, store(l), l->store_length, payload, l->room, l->used, f->byte_pos, f->bit_pos, told);
     answer = dct_encode(record(f), RECORD, store(l), l->store_length, input(v), v->length, payload, l->room, used, f->byte_pos,
                         f->bit_pos, told);
     return fault == NONE ? answer : spoil_encode(l, f, payload, used, answer);
@@ -218,7 +225,7 @@ uint32_t clear(const struct list *l, const struct field *f, uint8_t *payload, st
     calls++;
     if (fault != NONE)
         prepare_fault(l, payload);
-    answer = dct_clear(record(&asked), RECORD, store(l), l->store_length, payload, l->room, l->room, f->byte_pos, f->bit_pos,
+    answer = dct_clear(record(&asked), RECORD, store(l), l->store_length, payload, l->room, l->used, f->byte_pos, f->bit_pos,
                        report);
     return fault == NONE ? answer : spoil_clear(l, f, payload, report, answer);
 }
@@ -228,7 +235,7 @@ uint32_t decode(const struct list *l, const struct field *f, const uint8_t *payl
 {
     uint32_t answer;
     calls++;
-    answer = dct_decode(record(f), RECORD, store(l), l->store_length, payload, l->room, f->byte_pos, f->bit_pos, output, length,
+    answer = dct_decode(record(f), RECORD, store(l), l->store_length, payload, l->used, f->byte_pos, f->bit_pos, output, length,
                         report);
     if (fault != NONE && report->byte_count > 0)
         spoil_decode(output, length, report);

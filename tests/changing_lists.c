@@ -1,5 +1,5 @@
 /* Draws lists of numeric fields of given lengths whose own bits are disjoint, though their cut-outs often overlap. What a field
- * owns is worked out bit by bit as document 01 says it; nothing of that is the library's.
+ * owns is worked out bit by bit as RULES 8.1 says it; nothing of that is the library's.
  */
 #include <string.h>
 
@@ -100,7 +100,7 @@ static void draw_mask(struct field *f)
 }
 
 /* A field that is too long for the payload is placed before it, and so not taken. */
-static struct field draw_field(size_t room)
+static struct field draw_field(size_t size)
 {
     static const uint8_t types[] = {FLOAT32, FLOAT64, INT32, INT32, INT32, UINT32, UINT32, UINT32};
     static const uint8_t lengths[] = {1, 2, 3, 4, 5, 6, 7, 8, 12, 12, 16, 16, 24, 24, 32, 64};
@@ -112,7 +112,7 @@ static struct field draw_field(size_t room)
     f.bit_pos = below(2) ? below(8) : 0;
     draw_mask(&f);
     measure(&f);
-    f.byte_pos = f.cut > room || below(4) == 0 ? room - f.cut : below(room - f.cut + 1);
+    f.byte_pos = f.cut > size || below(4) == 0 ? size - f.cut : below(size - f.cut + 1);
     return f;
 }
 
@@ -128,9 +128,9 @@ static struct field draw_complement(struct field f)
 }
 
 /* A field that begins with the bit above the other's highest. */
-static struct field draw_neighbour(const struct field *other, size_t room)
+static struct field draw_neighbour(const struct field *other, size_t size)
 {
-    struct field f = draw_field(room);
+    struct field f = draw_field(size);
     size_t end = other->bit_pos + other->bits;
     size_t at = other->byte_pos + (other->high_low ? other->cut - 1 - end / 8 : end / 8);
     f.bit_pos = end % 8;
@@ -139,21 +139,27 @@ static struct field draw_neighbour(const struct field *other, size_t room)
     return f;
 }
 
+/* Fields end within the used bytes, whatever room there is behind them. */
+static size_t size_for_fields(const struct list *l)
+{
+    return fault == ENDS_BEHIND ? l->room : l->used;
+}
+
 static struct field draw_candidate(const struct list *l)
 {
     const struct field *other = &l->fields[below(l->count + 1)];
     if (other == &l->fields[l->count] || below(3) == 0)
-        return draw_field(l->room);
-    return other->mask_length > 0 && below(4) ? draw_complement(*other) : draw_neighbour(other, l->room);
+        return draw_field(size_for_fields(l));
+    return other->mask_length > 0 && below(4) ? draw_complement(*other) : draw_neighbour(other, size_for_fields(l));
 }
 
 /* Encode accepts it there, and no other field owns its bits. A position that wrapped below 0 is past the payload. */
 static int is_free(const struct list *l, const struct field *f)
 {
-    size_t i;
-    if (f->cut > l->room || f->byte_pos > l->room - f->cut)
+    size_t size = size_for_fields(l), i;
+    if (f->cut > size || f->byte_pos > size - f->cut)
         return 0;
-    for (i = 0; i < CUT && f->byte_pos + i < l->room; i++)
+    for (i = 0; i < CUT && f->byte_pos + i < size; i++)
         if (l->taken[f->byte_pos + i] & f->own[i])
             return 0;
     return 1;
@@ -197,7 +203,7 @@ static void take(struct list *l, struct field f)
     f.mask_place = f.masked ? l->store_length : 0;
     memcpy(l->store + l->store_length, f.mask, f.mask_length);
     l->store_length += f.mask_length;
-    for (i = 0; i < CUT && f.byte_pos + i < l->room; i++)
+    for (i = 0; i < CUT && f.byte_pos + i < size_for_fields(l); i++)
         l->taken[f.byte_pos + i] |= f.own[i];
     draw_value(&l->values[l->count], f.length);
     l->fields[l->count++] = f;
@@ -213,18 +219,29 @@ static void shuffle(size_t *order, size_t count)
     }
 }
 
-static size_t draw_room(void)
+static size_t draw_used(void)
 {
     size_t kind = below(400);
     return kind == 0 ? SLICE : kind < 16 ? 1 + below(4000) : 1 + below(24);
+}
+
+/* How many bytes the slice has behind the used ones, of at most so many: none, some or all. */
+static size_t draw_behind(size_t most)
+{
+    size_t kind = below(400), behind = kind == 0 ? most : kind < 16 ? below(4000) : kind < 100 ? 0 : 1 + below(40);
+    return behind < most ? behind : most;
 }
 
 void draw_list(struct list *l)
 {
     size_t wanted = 1 + below(FIELDS), tries;
     struct field f;
-    l->room = draw_room();
-    met[LARGEST] += l->room == SLICE;
+    l->used = draw_used();
+    l->room = l->used + draw_behind(SLICE - l->used);
+    draw_bytes(l->behind, l->room - l->used);
+    met[LARGEST] += l->used == SLICE;
+    met[SOME_BEHIND] += l->room > l->used;
+    met[LARGEST_BEHIND] += l->used < SLICE && l->room == SLICE;
     l->count = l->store_length = 0;
     memset(l->taken, 0, l->room);
     for (tries = 0; l->count < wanted && (tries < 3 * FIELDS || l->count == 0); tries++) {

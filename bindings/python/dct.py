@@ -4,10 +4,11 @@ Every call gets an answer or raises a Refusal with a number. A refusal leaves th
 exception. Bytes to be read may be any bytes-like object; numbers are ints from 0 to 2^64-1.
 """
 import ctypes
+import enum
 import os
 from typing import NamedTuple, Union
 
-__version__ = "1.1.0"
+__version__ = "1.2.0"
 
 _MEANINGS = {}
 
@@ -68,6 +69,15 @@ class Reading(NamedTuple):
     bit_count: int
 
 
+class Class(enum.Enum):
+    """The class of a refusal, with the letter of include/dct.h. The first three are the errors of the Rust that the library follows."""
+
+    BAD_PAYLOAD = "B"
+    NOT_ENOUGH_DATA = "N"
+    INVALID_DATABASE = "D"
+    OURS = "P"
+
+
 class Refusal(Exception):
     """Why a call did nothing. Expected and actual are 0 unless the number is NOT_ENOUGH_DATA."""
 
@@ -81,6 +91,13 @@ class Refusal(Exception):
     def meaning(self):
         """The sentence that include/dct.h has for the number."""
         return _MEANINGS.get(self.number, "an unknown number")
+
+    @property
+    def class_(self):
+        """The class of the number, as the library tells it; None where the library knows no such refusal."""
+        # ctypes would take the lowest 32 bits of any int
+        letter = _library.dct_class(self.number) if 0 <= self.number < 1 << 32 else 0
+        return next((class_ for class_ in Class if ord(class_.value) == letter), None)
 
     def __str__(self):
         text = f"refusal {self.number}: {self.meaning}"
@@ -120,6 +137,7 @@ def _loaded():
         "dct_clear": [*slice_ * 3, number, number, number, report],
         "dct_read": [*slice_ * 3, number, number, numbers, report],
         "dct_fetch": [*slice_, number, numbers],
+        "dct_class": [ctypes.c_uint32],
     }
     try:
         library = ctypes.CDLL(path)

@@ -24,7 +24,7 @@ class Watched:
     """The shared object, each call of which is held to what include/dct.h asks of a caller."""
 
     # which slices a call writes
-    WRITTEN = {"dct_decode": [3], "dct_encode": [3], "dct_clear": [2], "dct_read": [], "dct_fetch": []}
+    WRITTEN = {"dct_decode": [3], "dct_encode": [3], "dct_clear": [2], "dct_read": [], "dct_fetch": [], "dct_class": []}
 
     def __init__(self, library):
         self.library = library
@@ -282,9 +282,18 @@ def header():
     """Name, number and sentence of each number of include/dct.h."""
     text = (ROOT / "include/dct.h").read_text()
     numbered = re.findall(r"^ +DCT_(\w+) = (\d+),? +/\* (.*) \*/$", text, re.MULTILINE)
-    if len(numbered) != text.count("    DCT_"):
+    if len(numbered) + len(classes()) != text.count("    DCT_"):
         raise ValueError("a number of include/dct.h has another form")
     return [(name, int(number), sentence) for name, number, sentence in numbered]
+
+
+def classes():
+    """Name and letter of each class of include/dct.h."""
+    return re.findall(r"^ +DCT_CLASS_(\w+) = '(.)'", (ROOT / "include/dct.h").read_text(), re.MULTILINE)
+
+
+# The column of classes of RULES 10, but for B, which all other refusals have.
+CLASSES = {10: "D", 30: "N", 37: "D", **dict.fromkeys(range(39, 46), "P")}
 
 
 class Numbers(unittest.TestCase):
@@ -295,6 +304,18 @@ class Numbers(unittest.TestCase):
         self.assertEqual(ours, {name: number for name, number, _ in header()})
         for _, number, sentence in header():
             self.assertEqual(dct.Refusal(number).meaning, sentence)
+
+    def test_classes_of_the_numbers(self):
+        self.assertEqual([(class_.name, class_.value) for class_ in dct.Class], classes())
+        refusals = {number for _, number, _ in header()} - {dct.OK}
+        edges = [(1 << bit) + more for bit in range(32) for more in (-1, 0, 10, 30)]
+        for number in [*range(1001), *edges, *range((1 << 32) - 256, 1 << 32)]:
+            letter = CLASSES.get(number, "B") if number in refusals else None
+            class_ = dct.Refusal(number).class_
+            self.assertEqual(class_ and class_.value, letter, number)
+            self.assertEqual(class_ is None, dct._library.dct_class(number) == 0, number)
+        for number in ((1 << 32) + 10, 30 - (1 << 32)):
+            self.assertIsNone(dct.Refusal(number).class_, number)
 
     def test_refusal_as_text(self):
         short = "refusal 30: the payload is too short: expected and actual say by how much (expected 5, actual 2)"

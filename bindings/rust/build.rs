@@ -23,7 +23,7 @@ fn found(variable: &str, folder: &str, name: &str, advice: &str) -> PathBuf {
 
 /// The numbers of the header as lines of the macro `numbers`.
 fn numbers(header: &str) -> String {
-    let lines = header.lines().filter_map(|line| line.strip_prefix("    DCT_"));
+    let lines = header.lines().filter_map(|line| line.strip_prefix("    DCT_")).filter(|line| !line.starts_with("CLASS_"));
     lines
         .map(|line| {
             let parts = line.split_once(" = ").zip(line.split_once("/* "));

@@ -1,8 +1,8 @@
-//! The five functions of include/dct.h, called with slices, and all that is unsafe in the crate but for their declarations.
+//! The functions of include/dct.h, called with slices, and all that is unsafe in the crate but for their declarations.
 //!
 //! What the header asks of a caller holds by the types: a slice's pointer is never null and holds what its length says, and what
 //! is lent by `&mut` overlaps nothing else.
-use crate::raw::{dct_clear, dct_decode, dct_encode, dct_fetch, dct_read, Report};
+use crate::raw::{dct_class, dct_clear, dct_decode, dct_encode, dct_fetch, dct_read, Report};
 use crate::{number, Field, Refusal};
 
 /// The report of a call that gave a number.
@@ -114,4 +114,10 @@ pub fn fetch(table: &[u8], number: usize) -> Result<[usize; 3], Refusal> {
     // SAFETY: as in `decode`; nothing is written but the places.
     let number = unsafe { dct_fetch(table.as_ptr(), table.len(), number, &mut places) };
     answered(number, Report::default()).map(|_| places)
+}
+
+/// The letter of the class of a number.
+pub fn class(number: u32) -> u32 {
+    // SAFETY: it takes no pointer.
+    unsafe { dct_class(number) }
 }

@@ -25,7 +25,7 @@ mod ffi;
 pub mod raw;
 mod refusal;
 
-pub use refusal::{number, Refusal};
+pub use refusal::{number, Class, Refusal};
 
 /// The README's example, which is run with the other doc tests.
 #[cfg(doctest)]

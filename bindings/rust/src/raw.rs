@@ -64,4 +64,5 @@ extern "C" {
         report: *mut Report,
     ) -> u32;
     pub fn dct_fetch(table: *const u8, table_length: usize, number: usize, places: *mut [usize; 3]) -> u32;
+    pub fn dct_class(number: u32) -> u32;
 }

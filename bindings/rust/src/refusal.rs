@@ -1,4 +1,5 @@
-//! The numbers of refusals with their sentences, which the build takes from include/dct.h, and a refusal as an error.
+//! The numbers of refusals with their sentences, which the build takes from include/dct.h, their classes, and a refusal as an error.
+use crate::ffi;
 use std::error::Error;
 use std::fmt;
 
@@ -23,6 +24,24 @@ macro_rules! numbers {
 
 include!(concat!(env!("OUT_DIR"), "/numbers.rs"));
 
+/// The class of a refusal, with the letter of include/dct.h. The first three are the errors of the Rust that the library follows.
+#[derive(Clone, Copy, Debug, PartialEq, Eq, Hash)]
+#[repr(u8)]
+pub enum Class {
+    /// The description, a position, the payload or the input does not fit.
+    BadPayload = b'B',
+    /// The payload is too short.
+    NotEnoughData = b'N',
+    /// The description asks for what its variant cannot do.
+    InvalidDatabase = b'D',
+    /// No error of the Rust: room, slices, records, tables, clear.
+    Ours = b'P',
+}
+
+impl Class {
+    const ALL: [Class; 4] = [Class::BadPayload, Class::NotEnoughData, Class::InvalidDatabase, Class::Ours];
+}
+
 /// Why a call did nothing.
 #[derive(Clone, Copy, Debug, PartialEq, Eq)]
 pub struct Refusal {
@@ -38,6 +57,12 @@ impl Refusal {
     /// The sentence that include/dct.h has for the number.
     pub fn meaning(&self) -> &'static str {
         meaning(self.number)
+    }
+
+    /// The class of the number, as the library tells it; none where the library knows no such refusal.
+    pub fn class(&self) -> Option<Class> {
+        let letter = ffi::class(self.number);
+        Class::ALL.into_iter().find(|class| *class as u32 == letter)
     }
 }
 

@@ -1,4 +1,4 @@
-// Runs document 01's bench cases and prints a line for each: letter, space, `same` or `differs`.
+// Runs the bench cases of RULES 13 and prints a line for each: letter, space, `same` or `differs`.
 mod records; // records.rt: the records of the cases
 mod compare; // compare.rt: what is answered beside what should be
 mod reading; // reading.rt: the cases that read

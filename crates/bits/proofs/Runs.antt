@@ -19,6 +19,11 @@ bytes-cut at n xs h j =
     ⊎-elim (λ (l : j < n). rw (getD-take n (drop at xs) j 0 l, getD-drop at xs j 0) (h (at + j)))
     (λ (l : n ≤ j). rw (List·getD-eq-default (cut at n xs) 0 {n = j} (rw length-take (omega arith))) (omega arith)) (below j n)
 
+pub bytes-replicate : (n x : ℕ) → x < 256 → Bytes (replicate n x)
+bytes-replicate n x l j =
+    ⊎-elim (λ (h : j < n). rw (getD-replicate {A = ℕ} n j x 0 h) l)
+    (λ (h : n ≤ j). rw (List·getD-eq-default {A = ℕ} (replicate n x) 0 {n = j} (rw (length-replicate {A = ℕ} n x) h)) (omega arith)) (below j n)
+
 pub bytes-ordered : (o : ByteOrder) (xs : List ℕ) → Bytes xs → Bytes (ordered o xs)
 bytes-ordered o xs h j =
     ⊎-elim (λ (l : j < length xs). rw (getD-ordered o xs j l) (h (turned o (length xs) j)))

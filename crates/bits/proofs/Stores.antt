@@ -22,13 +22,16 @@ use Rattle.bits.proofs.Bytes.{Bytes, bitAt-in, bitAt-out, packed-ext, r
 
 -- ---- what the code reads
 
-pub bitAt-code : (xs : List ℕ) (i : ℕ) → i < 8 * length xs → bitAnd (getD xs (length xs - i / 8 - 1) 0 / 2 ^ (i % 8)) 1 ≡ bitAt xs i
+pub bit-code : (x k : ℕ) → bitAnd (x / 2 ^ k) 1 ≡ bit x k
 unfolding bit
+bit-code x k = and-mask _ 1
+
+pub bitAt-code : (xs : List ℕ) (i : ℕ) → i < 8 * length xs → bit (getD xs (length xs - i / 8 - 1) 0) (i % 8) ≡ bitAt xs i
 bitAt-code xs i h =
     let at : length xs - i / 8 - 1 ≡ length xs - 1 - i / 8 = omega arith in
-    rw at (and-mask _ 1 ∙ sym (bitAt-in xs i (omega arith)))
+    rw at (sym (bitAt-in xs i (omega arith)))
 
-pub ordered-code : (o : ByteOrder) (xs : List ℕ) (i : ℕ) → i < 8 * length xs → bitAnd (getD (ordered o xs) (length xs - i / 8 - 1) 0 / 2 ^ (i % 8)) 1 ≡ bitAt (ordered o xs) i
+pub ordered-code : (o : ByteOrder) (xs : List ℕ) (i : ℕ) → i < 8 * length xs → bit (getD (ordered o xs) (length xs - i / 8 - 1) 0) (i % 8) ≡ bitAt (ordered o xs) i
 ordered-code o xs i h =
     let len = length-ordered o xs in
     rw len at (bitAt-code (ordered o xs) i (omega arith))

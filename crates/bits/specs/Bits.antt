@@ -1,4 +1,4 @@
--- Document 01, 'Bits and byte order': bit i of n bytes is bit i mod 8 of byte n-1-floor(i/8).
+-- RULES 3.1: bit i of n bytes is bit i mod 8 of byte n-1-floor(i/8).
 use Prim.Native.Nat.{ℕ, zero, suc, _+_, _-_, _*_, _/_, _%_, _^_, max}
 use mathlib.Core.Bool.{Bool, cond}
 use mathlib.Core.List.{List, [], _∷_}

@@ -1,22 +1,29 @@
 // Bits of bytes: one bit read or set, and a run of bits taken out of bytes.
 ghost use mathlib.Core.Path.{_≡_};
-ghost use Prim.Native.Nat.{_+_, _*_, _<_, _≤_};
+ghost use Prim.Native.Nat.{_+_, _*_, _%_, _<_, _≤_};
 ghost use lib.ListN.{length, replicate};
 ghost use lib.Dec.{ltb};
 ghost use Rattle.kinds.specs.Types.{bytesFor};
 ghost use Rattle.order.specs.Order.{ordered};
-ghost use Rattle.bits.specs.Bits.{bitAt, orBit, orBitChecked};
+ghost use Rattle.bits.specs.Bits.{bit, bitAt, orBit, orBitChecked};
 ghost use Rattle.bits.specs.Moves.{extracted};
 use kinds::BitLength;
 use kinds::ByteOrder;
+
+// Bit i of bytes, by the byte that it is in.
+pub fn bit_of(byte: u8, i: usize) -> u8
+    ensures { λ r. ⌜ r ≡ bit byte (i % 8) ⌝ }
+{
+    (byte >> kinds::bit_in_byte(i)) & 1
+}
 
 // Bit i of the bytes.
 pub fn bit_at(data: &[u8], i: usize) -> u8
     requires { ⌜ i < 8 * length (now «data») ⌝ }
     ensures { λ r. ⌜ r ≡ bitAt (now («data» .entry)) i ⌝ }
 {
-    let byte = data.len() - i / 8 - 1;
-    (data[byte] >> (i % 8)) & 1
+    let byte = data.len() - kinds::byte_from_last(i) - 1;
+    bit_of(data[byte], i)
 }
 
 // ORs the lowest bit of a value into a bit, which it clears first or not. Answers whether there is such a byte.
@@ -49,8 +56,8 @@ pub fn ordered_bit_at(data: &[u8], byte_order: ByteOrder, i: usize) -> u8
     requires { ⌜ i < 8 * length (now «data») ⌝ }
     ensures { λ r. ⌜ r ≡ bitAt (ordered «byte_order» (now («data» .entry))) i ⌝ }
 {
-    let byte = order::ordered_byte(data, byte_order, data.len() - i / 8 - 1);
-    (byte >> (i % 8)) & 1
+    let byte = data.len() - kinds::byte_from_last(i) - 1;
+    bit_of(order::ordered_byte(data, byte_order, byte), i)
 }
 
 // ORs the lowest bit of a value into bit i of the bytes, which it clears first or not.
@@ -58,8 +65,8 @@ pub fn set_bit_at(data: &mut [u8], i: usize, bit_value: u8, clear_bit: bool)
     requires { ⌜ i < 8 * length (now «data») ⌝ }
     ensures { λ _. ⌜ now («data» .exit) ≡ orBit «clear_bit» (now («data» .entry)) i «bit_value» ⌝ }
 {
-    let byte = data.len() - i / 8 - 1;
-    set_bit_checked(data, byte, i % 8, bit_value, clear_bit);
+    let byte = data.len() - kinds::byte_from_last(i) - 1;
+    set_bit_checked(data, byte, kinds::bit_in_byte(i), bit_value, clear_bit);
 }
 
 // Zeros in all of the bytes.

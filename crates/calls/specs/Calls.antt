@@ -1,12 +1,12 @@
--- Document 01, 'Order': the whole answer of each call, by a coded type or by its record. What is refused first is said once, in `called`.
+-- RULES 11: the whole answer of each call, by a coded type or by its record. What is refused first is said once, in `called`.
 use Prim.Native.Nat.{ℕ}
 use mathlib.Core.List.{List, []}
 use lib.ListN.{length}
 use Rattle.kinds.specs.Answers.{wrote}
-use Rattle.kinds.specs.Outcomes.{Outcome, gives, after, following, Answer, answer, concluded}
+use Rattle.kinds.specs.Outcomes.{Outcome, gives, lacks, refuses, after, following, Answer, answer, concluded}
 use Rattle.coded.specs.declared.coded_type.DiagCodedType.{DiagCodedType}
 use Rattle.coded.specs.Getters.{keyNameOf}
-use Rattle.field.specs.Field.{fieldOf, partAt}
+use Rattle.field.specs.Field.{fieldOf, partAt, startAt}
 use Rattle.field.specs.Refusals.{slicesRefusal}
 use Rattle.record.specs.Recorded.{codedByRecord}
 use Rattle.parts.specs.Part.{runtimePart, partAnswer}
@@ -53,3 +53,12 @@ nameAnswer = concluded [] (answer wrote)
 
 unfoldable pub keyName : Description → List ℕ → Answer (List ℕ)
 keyName d store = nameAnswer (called d store 0 0 0 (λ t. gives (partAt store (keyNameOf (t .«type_»)))))
+
+-- where that name starts in the store, and 0 where there is none
+abbrev pub startGiven : Outcome ℕ → ℕ
+startGiven (gives n) = n
+startGiven (lacks expected actual) = 0
+startGiven (refuses r) = 0
+
+unfoldable pub nameStart : Description → List ℕ → ℕ
+nameStart d store = startGiven (called d store 0 0 0 (λ t. gives (startAt (length store) (keyNameOf (t .«type_»)))))

@@ -6,6 +6,7 @@ ghost use Rattle.payload.specs.Payload.{payloadOf};
 ghost use Rattle.calls.specs.Calls.{byType, byRecord, clearedField};
 use coded::DiagCodedType;
 use described::clear_described;
+use kinds::ByteCount;
 use kinds::Check;
 use kinds::Writing;
 use record::Recorded;
@@ -21,7 +22,9 @@ pub fn clear(
 ) -> Writing
     ensures { λ r. ⌜ answer (reportOfWriting r) (payloadOf (now («uds_payload» .exit)) used) ≡ clearedField (byType «coded_type») (now (store .entry)) (payloadOf (now («uds_payload» .entry)) used) «byte_pos» «bit_pos» ⌝ }
 {
-    match field::validate_slices(0, store.len(), 0, uds_payload.len(), used) {
+    let store_len = ByteCount(store.len());
+    let payload_len = ByteCount(uds_payload.len());
+    match field::validate_slices(ByteCount(0), store_len, ByteCount(0), payload_len, used) {
         Check::Refused(refusal) => Writing::Refused(refusal),
         Check::Passed => clear_described(coded_type, store, uds_payload, used, byte_pos, bit_pos),
     }
@@ -38,7 +41,9 @@ pub fn clear_by_record(
 ) -> Writing
     ensures { λ r. ⌜ answer (reportOfWriting r) (payloadOf (now («uds_payload» .exit)) used) ≡ clearedField (byRecord (now («record» .entry))) (now (store .entry)) (payloadOf (now («uds_payload» .entry)) used) «byte_pos» «bit_pos» ⌝ }
 {
-    match record::coded_by_record(record, store.len(), 0, uds_payload.len(), used) {
+    let store_len = ByteCount(store.len());
+    let payload_len = ByteCount(uds_payload.len());
+    match record::coded_by_record(record, store_len, ByteCount(0), payload_len, used) {
         Recorded::Refused(refusal) => Writing::Refused(refusal),
         Recorded::Coded(coded_type) => {
             clear_described(coded_type, store, uds_payload, used, byte_pos, bit_pos)

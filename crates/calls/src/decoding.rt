@@ -5,6 +5,7 @@ ghost use Rattle.kinds.specs.Outcomes.{answer};
 ghost use Rattle.calls.specs.Calls.{byType, byRecord, decoded};
 use coded::DiagCodedType;
 use described::decode_described;
+use kinds::ByteCount;
 use kinds::Check;
 use kinds::Reading;
 use record::Recorded;
@@ -20,7 +21,10 @@ pub fn decode(
 ) -> Reading
     ensures { λ r. ⌜ answer (reportOfReading r) (now (output .exit)) ≡ decoded (byType «coded_type») (now (store .entry)) (now («uds_payload» .entry)) «byte_pos» «bit_pos» (now (output .entry)) ⌝ }
 {
-    match field::validate_slices(0, store.len(), uds_payload.len(), output.len(), 0) {
+    let store_len = ByteCount(store.len());
+    let payload_len = ByteCount(uds_payload.len());
+    let room = ByteCount(output.len());
+    match field::validate_slices(ByteCount(0), store_len, payload_len, room, 0) {
         Check::Refused(refusal) => Reading::Refused(refusal),
         Check::Passed => {
             decode_described(coded_type, store, uds_payload, byte_pos, bit_pos, output)
@@ -39,7 +43,10 @@ pub fn decode_by_record(
 ) -> Reading
     ensures { λ r. ⌜ answer (reportOfReading r) (now (output .exit)) ≡ decoded (byRecord (now («record» .entry))) (now (store .entry)) (now («uds_payload» .entry)) «byte_pos» «bit_pos» (now (output .entry)) ⌝ }
 {
-    match record::coded_by_record(record, store.len(), uds_payload.len(), output.len(), 0) {
+    let store_len = ByteCount(store.len());
+    let payload_len = ByteCount(uds_payload.len());
+    let room = ByteCount(output.len());
+    match record::coded_by_record(record, store_len, payload_len, room, 0) {
         Recorded::Refused(refusal) => Reading::Refused(refusal),
         Recorded::Coded(coded_type) => {
             decode_described(coded_type, store, uds_payload, byte_pos, bit_pos, output)

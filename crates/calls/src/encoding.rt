@@ -6,6 +6,7 @@ ghost use Rattle.payload.specs.Payload.{payloadOf};
 ghost use Rattle.calls.specs.Calls.{byType, byRecord, encoded};
 use coded::DiagCodedType;
 use described::encode_described;
+use kinds::ByteCount;
 use kinds::Check;
 use kinds::Writing;
 use record::Recorded;
@@ -23,7 +24,10 @@ pub fn encode(
 ) -> Writing
     ensures { λ r. ⌜ answer (reportOfWriting r) (payloadOf (now («uds_payload» .exit)) (now (used .exit))) ≡ encoded (byType «coded_type») (now (store .entry)) (now («input_data» .entry)) (payloadOf (now («uds_payload» .entry)) (now (used .entry))) «byte_pos» «bit_pos» ⌝ }
 {
-    match field::validate_slices(0, store.len(), input_data.len(), uds_payload.len(), *used) {
+    let store_len = ByteCount(store.len());
+    let input_len = ByteCount(input_data.len());
+    let payload_len = ByteCount(uds_payload.len());
+    match field::validate_slices(ByteCount(0), store_len, input_len, payload_len, *used) {
         Check::Refused(refusal) => Writing::Refused(refusal),
         Check::Passed => encode_described(
             coded_type,
@@ -49,13 +53,10 @@ pub fn encode_by_record(
 ) -> Writing
     ensures { λ r. ⌜ answer (reportOfWriting r) (payloadOf (now («uds_payload» .exit)) (now (used .exit))) ≡ encoded (byRecord (now («record» .entry))) (now (store .entry)) (now («input_data» .entry)) (payloadOf (now («uds_payload» .entry)) (now (used .entry))) «byte_pos» «bit_pos» ⌝ }
 {
-    match record::coded_by_record(
-        record,
-        store.len(),
-        input_data.len(),
-        uds_payload.len(),
-        *used,
-    ) {
+    let store_len = ByteCount(store.len());
+    let input_len = ByteCount(input_data.len());
+    let payload_len = ByteCount(uds_payload.len());
+    match record::coded_by_record(record, store_len, input_len, payload_len, *used) {
         Recorded::Refused(refusal) => Writing::Refused(refusal),
         Recorded::Coded(coded_type) => encode_described(
             coded_type,

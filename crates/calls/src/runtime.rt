@@ -1,9 +1,13 @@
 // Parts of what was lent: so many bytes of a payload, by a coded type and by its record, and the name of a field's length key.
 ghost use mathlib.Core.Path.{_≡_};
 ghost use mathlib.Core.List.{_∷_};
+ghost use lib.ListN.{length};
+ghost use denote.Ref.{ptr};
 ghost use Rattle.kinds.specs.Answers.{numbered};
 ghost use Rattle.kinds.specs.Outcomes.{answer};
-ghost use Rattle.calls.specs.Calls.{byType, byRecord, runtimeRead, keyName};
+ghost use Rattle.kinds.specs.Slices.{behind};
+ghost use Rattle.parts.specs.Part.{partStart};
+ghost use Rattle.calls.specs.Calls.{byType, byRecord, runtimeRead, keyName, nameStart};
 use coded::DiagCodedType;
 use described::part_described;
 use kinds::ByteCount;
@@ -22,8 +26,11 @@ pub fn decode_with_runtime_byte_length<'a>(
     report: &mut [usize; 4],
 ) -> &'a [u8]
     ensures { λ r. ⌜ answer (now (number .exit) ∷ now (report .exit)) (now r) ≡ runtimeRead (byType «coded_type») (now (store .entry)) (now («uds_payload» .entry)) «byte_pos» («byte_count» .0) ⌝ }
+    ensures { λ r. ⌜ ptr r ≡ behind (partStart (length (now r)) «byte_pos») (ptr («uds_payload» .entry)) ⌝ }
 {
-    match field::validate_slices(0, store.len(), uds_payload.len(), 0, 0) {
+    let store_len = ByteCount(store.len());
+    let payload_len = ByteCount(uds_payload.len());
+    match field::validate_slices(ByteCount(0), store_len, payload_len, ByteCount(0), 0) {
         Check::Refused(refusal) => parts::no_part(refusal, uds_payload, number, report),
         Check::Passed => part_described(
             coded_type,
@@ -48,8 +55,11 @@ pub fn decode_with_runtime_byte_length_by_record<'a>(
     report: &mut [usize; 4],
 ) -> &'a [u8]
     ensures { λ r. ⌜ answer (now (number .exit) ∷ now (report .exit)) (now r) ≡ runtimeRead (byRecord (now («record» .entry))) (now (store .entry)) (now («uds_payload» .entry)) «byte_pos» («byte_count» .0) ⌝ }
+    ensures { λ r. ⌜ ptr r ≡ behind (partStart (length (now r)) «byte_pos») (ptr («uds_payload» .entry)) ⌝ }
 {
-    match record::coded_by_record(record, store.len(), uds_payload.len(), 0, 0) {
+    let store_len = ByteCount(store.len());
+    let payload_len = ByteCount(uds_payload.len());
+    match record::coded_by_record(record, store_len, payload_len, ByteCount(0), 0) {
         Recorded::Refused(refusal) => parts::no_part(refusal, uds_payload, number, report),
         Recorded::Coded(coded_type) => part_described(
             coded_type,
@@ -67,15 +77,17 @@ pub fn decode_with_runtime_byte_length_by_record<'a>(
 // refusal, and where there is no name: `length_key_place` tells that from an empty name.
 pub fn length_key_name<'a>(coded_type: DiagCodedType, store: &'a [u8], number: &mut u32) -> &'a [u8]
     ensures { λ r. ⌜ answer (numbered (now (number .exit))) (now r) ≡ keyName (byType «coded_type») (now (store .entry)) ⌝ }
+    ensures { λ r. ⌜ ptr r ≡ behind (nameStart (byType «coded_type») (now (store .entry))) (ptr (store .entry)) ⌝ }
 {
-    match field::validate_slices(0, store.len(), 0, 0, 0) {
+    let store_len = ByteCount(store.len());
+    match field::validate_slices(ByteCount(0), store_len, ByteCount(0), ByteCount(0), 0) {
         Check::Refused(refusal) => {
             *number = refusal.number();
             return &store[..0];
         }
         Check::Passed => {}
     }
-    match field::validate_description(coded_type, store.len()) {
+    match field::validate_description(coded_type, store_len) {
         Check::Refused(refusal) => {
             *number = refusal.number();
             &store[..0]

@@ -1,4 +1,4 @@
--- Document 01, 'Encode and clear': what a clear makes of a payload, and a field's whole answer to it.
+-- RULES 8: what a clear makes of a payload, and a field's whole answer to it.
 use Prim.Native.Nat.{ℕ}
 use mathlib.Core.List.{[], _∷_}
 use Rattle.kinds.specs.declared.types.DataType.{DataType}

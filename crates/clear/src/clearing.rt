@@ -8,6 +8,7 @@ ghost use Rattle.masks.specs.Mask.{maskOf};
 ghost use Rattle.payload.specs.Payload.{payloadOf, writeAnswer};
 ghost use Rattle.clear.specs.Clear.{standardCleared};
 use kinds::BitLength;
+use kinds::ByteCount;
 use kinds::ByteOrder;
 use kinds::Check;
 use kinds::DataType;
@@ -40,7 +41,7 @@ pub fn clear_standard_len(
         Check::Refused(refusal) => Writing::Refused(refusal),
         Check::Passed => {
             let mask_use = effective_use(described_use, mask);
-            let packing = pack::pack_data(bit_len, mask_use, mask, 0, false);
+            let packing = pack::pack_data(bit_len, mask_use, mask, ByteCount(0), false);
             payload::clear_source(
                 packing.bit_len,
                 mask_use,

@@ -1,4 +1,4 @@
--- Document 01, 'Domain': a coded type built through `MinMaxLengthType::new` and then `new`.
+-- RULES 2.3: a coded type built through `MinMaxLengthType::new` and then `new`.
 use Prim.Native.Nat.{ℕ}
 use mathlib.Core.Bool.{Bool}
 use Rattle.kinds.specs.declared.types.DataType.{DataType}

@@ -1,4 +1,4 @@
--- Document 01, rows 10 to 13 of the refusals: 12 and 13 of the limits, then 10 and 11 of the coded type.
+-- RULES 10, the numbers 10 to 13: 12 and 13 of the limits, then 10 and 11 of the coded type.
 use Prim.Native.Nat.{ℕ, _%_}
 use mathlib.Core.Bool.{Bool, true, false, not, _&&_}
 use mathlib.Core.List.{[], _∷_}

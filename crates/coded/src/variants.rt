@@ -3,13 +3,14 @@ ghost use mathlib.Core.Path.{_≡_};
 ghost use Rattle.coded.specs.Refusals.{minMaxRefusal, limitsRefusal};
 ghost use Rattle.coded.specs.Making.{newMinMax, outcomeOfMinMax};
 use kinds::BitLength;
+use kinds::ByteCount;
 use kinds::Check;
 use kinds::Refusal;
 
 // A part of the store of masks and key names.
 pub struct Place {
     pub at: usize,
-    pub len: usize,
+    pub len: ByteCount,
 }
 
 pub enum OptionalPlace {

@@ -3,12 +3,11 @@ use mathlib.Core.Path.{_≡_, refl, sym, ap, _∙_}
 use mathlib.Core.Logic.{⊎-elim}
 use mathlib.Core.Bool.{Bool, true, false, cond}
 use mathlib.Core.List.{List, [], _∷_, _++_, append-nil}
-use Prim.Native.Nat.{ℕ, zero, suc, _+_, _-_, _/_, _%_, _^_, _≤_, _<_}
+use Prim.Native.Nat.{ℕ, zero, suc, _+_, _-_, _/_, _%_, _≤_, _<_}
 use native.Mathlib.Numerals.{add-one}
 use native.Mathlib.Omega.{arith}
 use lib.ListN.{length, getD, length-append, List·getD-eq-default}
 use lib.Dec.{eqb}
-use lib.Bits.{bitAnd, and-mask}
 use borrow.Author.Tests.{eq-eqb, ne-eqb}
 use Rattle.kinds.proofs.Compare.{same}
 use Rattle.bits.specs.Bits.{bit, packed, orBit}
@@ -63,11 +62,11 @@ snoc-step l xs n v b lv e =
 
 -- ---- what the code reads of a mask that is indexed from its front
 
-pub frontBit-code : (mask : List ℕ) (n i : ℕ) → bitAnd (getD mask (n - i / 8 - 1) 0 / 2 ^ (i % 8)) 1 ≡ frontBit mask n i
-unfolding frontBit bit
+pub frontBit-code : (mask : List ℕ) (n i : ℕ) → bit (getD mask (n - i / 8 - 1) 0) (i % 8) ≡ frontBit mask n i
+unfolding frontBit
 frontBit-code mask n i =
     let at : n - i / 8 - 1 ≡ n - 1 - i / 8 = omega arith in
-    rw at (and-mask _ 1)
+    rw at
 
 pub frontBit-out : (mask : List ℕ) (n i : ℕ) → length mask ≤ n - i / 8 - 1 → frontBit mask n i ≡ 0
 unfolding frontBit

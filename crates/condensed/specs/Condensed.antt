@@ -1,4 +1,4 @@
--- Document 01, 'Decode', 'Encode and clear': a condensed mask, read from its front and written from its end.
+-- RULES 4.3 to 4.7: a condensed mask, read from its front and written from its end.
 use Prim.Native.Nat.{ℕ, zero, suc, _+_, _-_, _*_, _/_, _%_, min}
 use mathlib.Core.Bool.{cond}
 use mathlib.Core.List.{List, [], _∷_, _++_}

@@ -14,27 +14,27 @@ use kinds::ByteCount;
 use kinds::ByteOrder;
 
 // How many ones the mask has, all of its bytes counted.
-pub fn count_mask_ones(mask: &[u8]) -> usize
+pub fn count_mask_ones(mask: &[u8]) -> BitLength
     requires { ⌜ length (now mask) ≤ 65535 ⌝ }
-    ensures { λ r. ⌜ r ≡ onesOf (now (mask .entry)) ⌝ }
+    ensures { λ r. ⌜ r .0 ≡ onesOf (now (mask .entry)) ⌝ }
 {
-    let mut total: usize = 0;
+    let mut total: u32 = 0;
     let mut i = 0;
     while i < mask.len() {
-        total += u8::count_ones(mask[i]) as usize;
+        total += u8::count_ones(mask[i]);
         i += 1;
     }
-    total
+    BitLength(total)
 }
 
-// Bit i of a mask that is indexed from its front, as it meets n bytes.
-fn front_bit_at(mask: &[u8], n: usize, i: usize) -> u8
-    requires { ⌜ i < 8 * n ⌝ }
-    ensures { λ r. ⌜ r ≡ frontBit (now (mask .entry)) n i ⌝ }
+// Bit i of a mask that is indexed from its front, as it meets so many bytes.
+fn front_bit_at(mask: &[u8], field_bytes: ByteCount, i: usize) -> u8
+    requires { ⌜ i < 8 * «field_bytes» .0 ⌝ }
+    ensures { λ r. ⌜ r ≡ frontBit (now (mask .entry)) («field_bytes» .0) i ⌝ }
 {
-    let byte = n - i / 8 - 1;
+    let byte = field_bytes.bytes() - kinds::byte_from_last(i) - 1;
     if byte < mask.len() {
-        return (mask[byte] >> (i % 8)) & 1;
+        return bits::bit_of(mask[byte], i);
     }
     0
 }
@@ -43,7 +43,7 @@ fn front_bit_at(mask: &[u8], n: usize, i: usize) -> u8
 fn count_met_ones(bit_mask: &[u8], bit_len: BitLength) -> BitLength
     ensures { λ r. ⌜ r .0 ≡ onesBelow (frontBit (now («bit_mask» .entry)) (bytesFor («bit_len» .0))) («bit_len» .0) ⌝ }
 {
-    let field_bytes = bit_len.byte_count().bytes();
+    let field_bytes = bit_len.byte_count();
     let mut count: u32 = 0;
     for i in 0..bit_len.bits() {
         count += front_bit_at(bit_mask, field_bytes, i) as u32;
@@ -79,17 +79,18 @@ pub fn condensed_size(bit_mask: &[u8], bit_len: BitLength) -> CondensedSize
 }
 
 // Where the mask bit is one, puts a bit behind the count that are there, if there is room. Answers how many are gathered.
-fn gather_bit(result_bytes: &mut [u8], count: usize, mask_bit: u8, bit_value: u8) -> usize
-    requires { ⌜ count < 2 ^ 32 ⌝ }
-    ensures { λ r. ⌜ r ≡ cond (eqb «mask_bit» 1) (count + 1) count ⌝ }
-    ensures { λ _. ⌜ now («result_bytes» .exit) ≡ cond (eqb «mask_bit» 1) (orBit false (now («result_bytes» .entry)) count «bit_value») (now («result_bytes» .entry)) ⌝ }
+fn gather_bit(result_bytes: &mut [u8], count: BitLength, mask_bit: u8, bit_value: u8) -> BitLength
+    requires { ⌜ count .0 + 1 < 2 ^ 32 ⌝ }
+    ensures { λ r. ⌜ r .0 ≡ cond (eqb «mask_bit» 1) (count .0 + 1) (count .0) ⌝ }
+    ensures { λ _. ⌜ now («result_bytes» .exit) ≡ cond (eqb «mask_bit» 1) (orBit false (now («result_bytes» .entry)) (count .0) «bit_value») (now («result_bytes» .entry)) ⌝ }
 {
     if mask_bit == 1 {
-        if count / 8 < result_bytes.len() {
-            bits::set_bit_at(result_bytes, count, bit_value, false);
-            return count + 1;
+        let next = count.bits();
+        if kinds::byte_from_last(next) < result_bytes.len() {
+            bits::set_bit_at(result_bytes, next, bit_value, false);
+            return count.one_more();
         }
-        return count + 1;
+        return count.one_more();
     }
     count
 }
@@ -103,15 +104,15 @@ pub fn gather_bits(
     bit_pos: usize,
     bit_len: BitLength,
     result_bytes: &mut [u8],
-) -> usize
+) -> BitLength
     requires { ⌜ length (now «data») ≤ 65535 ⌝ }
     requires { ⌜ «bit_pos» + «bit_len» .0 ≤ 8 * length (now «data») ⌝ }
-    ensures { λ r. ⌜ r ≡ length (picked (now («bit_mask» .entry)) («bit_len» .0) (from «bit_pos» (bitAt (ordered «byte_order» (now («data» .entry)))))) ⌝ }
+    ensures { λ r. ⌜ r .0 ≡ length (picked (now («bit_mask» .entry)) («bit_len» .0) (from «bit_pos» (bitAt (ordered «byte_order» (now («data» .entry)))))) ⌝ }
     ensures { λ _. ⌜ now («result_bytes» .exit) ≡ packed (length (now («result_bytes» .entry))) (bitsOf (picked (now («bit_mask» .entry)) («bit_len» .0) (from «bit_pos» (bitAt (ordered «byte_order» (now («data» .entry))))))) ⌝ }
 {
     bits::zero(result_bytes);
-    let field_bytes = bit_len.byte_count().bytes();
-    let mut count = 0;
+    let field_bytes = bit_len.byte_count();
+    let mut count = BitLength(0);
     for i in 0..bit_len.bits() {
         let mask_bit = front_bit_at(bit_mask, field_bytes, i);
         let bit_value = bits::ordered_bit_at(data, byte_order, bit_pos + i);
@@ -125,7 +126,7 @@ fn replacement_bit(data: &[u8], data_bit_idx: usize) -> u8
     requires { ⌜ length (now «data») ≤ 65535 ⌝ }
     ensures { λ r. ⌜ r ≡ replacement (now («data» .entry)) «data_bit_idx» ⌝ }
 {
-    if data_bit_idx < 8 * data.len() {
+    if data_bit_idx < ByteCount(data.len()).bit_end() {
         return bits::bit_at(data, data_bit_idx);
     }
     1
@@ -139,7 +140,7 @@ pub fn apply_condensed_mask_packing(data: &[u8], mask: &[u8], bit_pos: usize, ds
     ensures { λ _. ⌜ now («dst_data» .exit) ≡ injected (8 * length (now (mask .entry))) «bit_pos» (replaced (now (mask .entry)) (now («data» .entry))) (now («dst_data» .entry)) ⌝ }
 {
     let mut data_bit_idx = 0;
-    for mask_bit_idx in 0..8 * mask.len() {
+    for mask_bit_idx in 0..ByteCount(mask.len()).bit_end() {
         let mask_bit = bits::bit_at(mask, mask_bit_idx);
         let data_bit = replacement_bit(data, data_bit_idx);
         bits::set_bit_at(dst_data, bit_pos + mask_bit_idx, mask_bit & data_bit, false);

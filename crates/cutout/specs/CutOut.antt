@@ -1,4 +1,4 @@
--- Document 01, 'Encode and clear': bits of an ordered cut-out, and those that a field owns.
+-- RULES 7.11, 7.12, 8.1: bits of an ordered cut-out, and those that a field owns.
 use Prim.Native.Nat.{ℕ, _-_, min}
 use mathlib.Core.List.{List}
 use Rattle.bits.specs.Bits.{bitAt}

@@ -23,7 +23,7 @@ fn put_bits(
     cut_out: &mut [u8],
 )
     requires { ⌜ length (now «data») ≤ 65535 ⌝ }
-    requires { ⌜ packing .«tail_len» < 2 ^ 32 ⌝ }
+    requires { ⌜ packing .«tail_len» .0 < 2 ^ 32 ⌝ }
     requires { ⌜ length (now «cut_out») ≤ 65535 ⌝ }
     requires { ⌜ «bit_pos» + packing .«bit_len» .0 ≤ 8 * length (now «cut_out») ⌝ }
     requires { ⌜ packing .«bit_len» .0 ≡ sizeUnder (maskOf «mask_use» (now mask)) (packing .«bit_len» .0) ⌝ }
@@ -54,7 +54,7 @@ pub fn write_cut_out(
     bit_pos: usize,
 )
     requires { ⌜ length (now «data») ≤ 65535 ⌝ }
-    requires { ⌜ packing .«tail_len» < 2 ^ 32 ⌝ }
+    requires { ⌜ packing .«tail_len» .0 < 2 ^ 32 ⌝ }
     requires { ⌜ length (now «cut_out») ≤ 65535 ⌝ }
     requires { ⌜ «bit_pos» + packing .«bit_len» .0 ≤ 8 * length (now «cut_out») ⌝ }
     requires { ⌜ packing .«bit_len» .0 ≡ sizeUnder (maskOf «mask_use» (now mask)) (packing .«bit_len» .0) ⌝ }

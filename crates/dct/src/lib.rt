@@ -2,10 +2,12 @@
 ghost use mathlib.Core.Path.{_≡_};
 ghost use mathlib.Core.List.{_∷_};
 ghost use Rattle.kinds.specs.Answers.{numbered};
+ghost use Rattle.kinds.specs.Classes.{classLetter};
 ghost use Rattle.kinds.specs.Outcomes.{answer};
 ghost use Rattle.payload.specs.Payload.{payloadOf};
 ghost use Rattle.calls.specs.Calls.{byRecord, decoded, encoded, clearedField, runtimeRead};
-ghost use Rattle.dct.specs.Boundary.{partStart, startAnswer, placesFetched};
+ghost use Rattle.parts.specs.Part.{partStart};
+ghost use Rattle.dct.specs.Boundary.{startAnswer, placesFetched};
 use kinds::ByteCount;
 use table::Fetched;
 
@@ -62,10 +64,10 @@ pub extern "C" fn dct_clear(
 }
 
 // Where a part of so many bytes starts, and 0 where it is empty.
-fn part_start(part_len: usize, byte_pos: usize) -> usize
-    ensures { λ r. ⌜ r ≡ partStart «part_len» «byte_pos» ⌝ }
+fn part_start(part_len: ByteCount, byte_pos: usize) -> usize
+    ensures { λ r. ⌜ r ≡ partStart («part_len» .0) «byte_pos» ⌝ }
 {
-    if part_len == 0 {
+    if part_len.bytes() == 0 {
         return 0;
     }
     byte_pos
@@ -94,7 +96,7 @@ pub extern "C" fn dct_read(
         &mut number,
         report,
     );
-    *place = part_start(part.len(), byte_pos);
+    *place = part_start(ByteCount(part.len()), byte_pos);
     number
 }
 
@@ -109,8 +111,16 @@ pub extern "C" fn dct_fetch(table: &[u8], number: usize, places: &mut [usize; 3]
             refusal.number()
         }
         Fetched::Found(entry) => {
-            *places = [entry.record_at, entry.store_at, entry.store_len];
+            *places = [entry.record_at, entry.store_at, entry.store_len.bytes()];
             0
         }
     }
+}
+
+// Tells the class of a number.
+#[no_mangle]
+pub extern "C" fn dct_class(number: u32) -> u32
+    ensures { λ r. ⌜ r ≡ classLetter number ⌝ }
+{
+    kinds::class_of(number)
 }

@@ -1,3 +1,4 @@
--- `Refused` has demand 1, and below it `Sizes` that writes keep a payload's size.
+-- `Refused` has demand 1, and below it `Sizes` that writes keep a payload's size and `Made` the calls that are lent nothing to change.
 pub mod Sizes
+pub mod Made
 pub mod Refused

@@ -1,7 +1,7 @@
 -- Demand 1 is proved: what specs/Refusing states.
 use mathlib.Core.Path.{_≡_, refl, ap, _∙_}
 use mathlib.Core.Logic.{inl, inr, ⊎-elim}
-use mathlib.Core.Bool.{Bool, true, false, not, _&&_}
+use mathlib.Core.Bool.{Bool, true, false, cond, not, _&&_}
 use mathlib.Core.List.{List, [], _∷_, _++_}
 use Prim.Native.Nat.{ℕ, _+_, _-_, _*_, _≤_, _<_, min}
 use native.Mathlib.Omega.{arith}
@@ -10,6 +10,7 @@ use lib.Seq.{drop-append-seam}
 use lib.Dec.{eqb, ltb}
 use borrow.Author.Tests.{ne-eqb, eqb-false}
 use Rattle.kinds.specs.declared.types.DataType.{DataType}
+use Rattle.kinds.specs.declared.types.DataType.the-variants.{ByteField}
 use Rattle.kinds.specs.declared.types.ByteOrder.{ByteOrder}
 use Rattle.kinds.specs.declared.refusals.Refusal.{Refusal}
 use Rattle.kinds.specs.declared.refusals.Refusal.the-variants.{OutputLacksRoom, NotClearable}
@@ -17,17 +18,26 @@ use Rattle.kinds.specs.declared.refusals.Check.{Check}
 use Rattle.kinds.specs.declared.refusals.Check.the-variants as check
 use Rattle.kinds.specs.Types.{isByteType, isUnicode}
 use Rattle.kinds.specs.Slices.{saturatingSum, cut}
-use Rattle.kinds.specs.Answers.{numberOf, refused, short, wrote, read}
+use Rattle.kinds.specs.Answers.{numberOf, numbered, refused, short, wrote, read}
 use Rattle.kinds.specs.Outcomes.{rule, firstOf, Outcome, gives, lacks, refuses, after, unlessShort, following, Answer, answer, concluded}
 use Rattle.kinds.specs.Refusals.{bitPositionRefusal}
 use Rattle.kinds.proofs.Compare.{below, same}
 use Rattle.kinds.proofs.Rows.{never-0}
+use Rattle.coded.specs.declared.variants.Place.{Place}
+use Rattle.coded.specs.declared.variants.OptionalPlace.{OptionalPlace}
+use Rattle.coded.specs.declared.variants.OptionalPlace.the-variants as place
+use Rattle.coded.specs.declared.variants.DiagCodedTypeVariant.the-variants.{ParamLengthInfo}
 use Rattle.coded.specs.declared.coded_type.DiagCodedType.{DiagCodedType}
+use Rattle.coded.specs.Refusals.{minMaxRefusal, codedTypeRefusal}
+use Rattle.coded.specs.Getters.{keyNameOf}
 use Rattle.masks.specs.Mask.{Mask}
 use Rattle.field.specs.declared.Shape.{Shape}
 use Rattle.field.specs.declared.Shape.the-variants as shape
-use Rattle.field.specs.Field.{fieldOf}
-use Rattle.field.specs.Refusals.{descriptionRefusal}
+use Rattle.field.specs.Field.{fieldOf, outside, partAt}
+use Rattle.field.specs.Refusals.{slicesRefusal, descriptionRefusal}
+use Rattle.record.specs.Numbers.{recordSize}
+use Rattle.record.specs.Parsing.{codedIn}
+use Rattle.storing.specs.Storing.{numbersFor, bytesOf, storingRefusal, storedRecord}
 use Rattle.table.specs.declared.Entry.{Entry}
 use Rattle.table.specs.Table.{fetched}
 use Rattle.unpack.specs.Found.{Found, readAnswer}
@@ -39,11 +49,12 @@ use Rattle.payload.specs.Writing.{inCutOut, cutBytes, cutEnd, aboveSeven, write
 use Rattle.lengths.specs.Refusals.{standardRefusal, countRefusal, emptyRefusal}
 use Rattle.writers.specs.Shapes.{withTerminator, shapeEncoded, fieldEncoding}
 use Rattle.clear.specs.Clear.{shapeCleared, fieldClearing}
-use Rattle.parts.specs.Part.{runtimePart, partAnswer}
-use Rattle.calls.specs.Calls.{Description, codedBy, called, decoded, encoded, clearedField, runtimeRead}
-use Rattle.dct.specs.Boundary.{partStart, startAnswer, placesOf, placesFetched}
-use Rattle.demand_one.specs.Refusing.{row, thirty, Refuses, Ends, Decodes, Reads, Encodes, Clears, Fetches, Demand1}
+use Rattle.parts.specs.Part.{runtimePart, partAnswer, partStart}
+use Rattle.calls.specs.Calls.{Description, byType, byRecord, codedBy, called, decoded, encoded, clearedField, runtimeRead, keyName}
+use Rattle.dct.specs.Boundary.{startAnswer, placesOf, placesFetched}
+use Rattle.demand_one.specs.Refusing.{row, thirty, Refuses, Ends, Decodes, Reads, Encodes, Clears, Fetches, HandsBack, Names, Stores, Described, Demand1}
 use Rattle.demand_one.proofs.Sizes.{size-written, size-cleared}
+use Rattle.demand_one.proofs.Made.{makes, makes-after, said-makes, fetch-makes}
 
 -- ---- refusals, and what holds of whatever is made
 
@@ -127,6 +138,20 @@ part-ends payload at (gives part) h = inl (record { bits = 8 * length part; byte
 part-ends payload at (lacks e a) h = inr (refuses-30 0 e a)
 part-ends payload at (refuses r) h = inr (refuses-row 0 r)
 
+-- the name that a variant has is a part of the store; where it is outside, or there is none, it is the empty part
+record PartOf (store name : List ℕ) : Type 0 where
+  at : ℕ
+  size : ℕ
+  part : name ≡ cut at size store
+
+in-store : (store : List ℕ) (p : Place) (out : Bool) → PartOf store (cond out [] (cut (p .at) (p .len .0) store))
+in-store store p true = record { at = 0; size = 0; part = refl }
+in-store store p false = record { at = p .at; size = p .len .0; part = refl }
+
+at-place : (store : List ℕ) (p : OptionalPlace) → PartOf store (partAt store p)
+at-place store (place.At p) = in-store store p (outside p (length store))
+at-place store place.Absent = record { at = 0; size = 0; part = refl }
+
 -- ---- writings
 
 module _ (p : Payload) (o : ByteOrder) (at pos : ℕ) where
@@ -202,13 +227,73 @@ module _ (d : Description) (store : List ℕ) where
       (holds-called P d store (length payload) 0 0 own
       (λ t. holds-short P (not (eqb count 0) && ltb (length payload) end) end (length payload) (gives (cut at count payload)) (part-inside payload at count)))
 
+  part-handed : (payload : List ℕ) (at count : ℕ) → Ends (HandsBack payload at count) [] (runtimeRead d store payload at count)
+  unfolding runtimeRead
+  part-handed payload at count =
+      let own : DiagCodedType → Outcome (List ℕ) = λ t. runtimePart payload at count in
+      let P : List ℕ → Type 0 = λ part. part ≡ cut at count payload in
+      let end = saturatingSum at count in
+      ends P (HandsBack payload at count) [] (λ part. answer (read (8 * length part) (length part)) part) (λ part h. record { reports = refl; part = h })
+      (called d store (length payload) 0 0 own)
+      (holds-called P d store (length payload) 0 0 own
+      (λ t. holds-short P (not (eqb count 0) && ltb (length payload) end) end (length payload) (gives (cut at count payload)) refl))
+
+  key-name-ends : Ends (Names store) [] (keyName d store)
+  unfolding keyName
+  key-name-ends =
+      let own : DiagCodedType → Outcome (List ℕ) = λ t. gives (partAt store (keyNameOf (t .«type_»))) in
+      ends (PartOf store) (Names store) [] (answer wrote) (λ name h. record { at = h .at; size = h .size; reports = refl; part = h .part }) (called d store 0 0 0 own)
+      (holds-called (PartOf store) d store 0 0 0 own (λ t. at-place store (keyNameOf (t .«type_»))))
+
 fetch-ends : (table : List ℕ) (number : ℕ) → Ends Fetches (0 ∷ 0 ∷ 0 ∷ []) (placesFetched table number)
 unfolding placesFetched
 fetch-ends table number =
     ends (λ (e : Entry). e ≡ e) Fetches (0 ∷ 0 ∷ 0 ∷ []) (λ e. answer wrote (placesOf e))
-    (λ e h. record { record-at = e .«record_at»; store-at = e .«store_at»; store-len = e .«store_len»; reports = refl; places = refl }) (fetched table number)
+    (λ e h. record { record-at = e .«record_at»; store-at = e .«store_at»; store-len = e .«store_len» .0; reports = refl; places = refl }) (fetched table number)
     (holds-any (fetched table number))
 
-pub demand-1 : Demand1
+record-of-ends : (t : DiagCodedType) (old : List ℕ) → Ends Stores old (storedRecord t old)
+unfolding storedRecord
+record-of-ends t old =
+    let check = storingRefusal (numbersFor t .place) in
+    let bytes = bytesOf (numbersFor t) in
+    let P : List ℕ → Type 0 = λ bytes. length bytes ≡ recordSize in
+    ends P Stores old (answer wrote) (λ bytes h. record { reports = refl; size = h }) (after check (gives bytes)) (holds-after P check (gives bytes) refl)
+
+-- ---- all of them
+
+described : (d : Description) → Described d
 unfolding decoded
-demand-1 = record { decode = λ d store payload at pos output. reading-ends output _; encode = encode-ends; clear = clear-ends; read = read-ends; fetch = fetch-ends }
+described d =
+    record {
+      decode = λ store payload at pos output. reading-ends output _;
+      encode = encode-ends d;
+      clear = clear-ends d;
+      read = read-ends d;
+      read-part = part-handed d;
+      key-name = key-name-ends d;
+    }
+
+pub demand-1 : Demand1
+demand-1 =
+    record {
+      by-type = λ t. described (byType t);
+      by-record = λ bytes. described (byRecord bytes);
+      fetch = fetch-ends;
+      record-of = record-of-ends;
+      new-limits = λ min max e. makes-after _ (minMaxRefusal min max) _ (makes _ _ (refl, refl, refl));
+      new = λ t v highLow. makes-after _ (codedTypeRefusal t v) _ (makes _ _ (refl, refl, refl));
+      coded-by-record = λ bytes store a b used. makes-after _ (slicesRefusal (length bytes) store a b used) _ (said-makes (codedIn bytes));
+      fetch-entry = fetch-makes;
+    }
+
+-- one that no record can say: the name of its key is past what 16 bits tell
+abbrev unsaid : DiagCodedType
+unsaid = record { «base_datatype» = ByteField; «type_» = ParamLengthInfo (record { at = 65536; len = record { 0 = 0 } }); «is_high_low_byte_order» = true }
+
+no-record : (old : List ℕ) → storedRecord unsaid old .report ≡ numbered 42
+unfolding storedRecord
+no-record old = refl
+
+pub demand-1-unsaid : Described (byType unsaid)
+demand-1-unsaid = demand-1 .by-type unsaid

@@ -2,14 +2,28 @@
 -- that the contracts of the calls cite; proofs/Refused proves it.
 use mathlib.Core.Path.{_≡_}
 use mathlib.Core.Logic.{_⊎_}
+use mathlib.Core.Bool.{Bool}
 use mathlib.Core.List.{List, [], _∷_}
-use Prim.Native.Nat.{ℕ, _+_, _≤_}
+use Prim.Native.Nat.{ℕ, _+_, _*_, _≤_}
 use lib.ListN.{length, drop}
+use Rattle.kinds.specs.declared.types.DataType.{DataType}
 use Rattle.kinds.specs.declared.refusals.Refusal.{Refusal}
+use Rattle.kinds.specs.Slices.{cut}
 use Rattle.kinds.specs.Answers.{numberOf, wrote, read}
-use Rattle.kinds.specs.Outcomes.{Answer}
+use Rattle.kinds.specs.Outcomes.{Outcome, gives, refuses, Answer}
+use Rattle.coded.specs.declared.variants.MaxLength.{MaxLength}
+use Rattle.coded.specs.declared.variants.Termination.{Termination}
+use Rattle.coded.specs.declared.variants.DiagCodedTypeVariant.{DiagCodedTypeVariant}
+use Rattle.coded.specs.declared.coded_type.DiagCodedType.{DiagCodedType}
+use Rattle.coded.specs.Making.{newMinMax, newCodedType}
+use Rattle.record.specs.declared.parsing.OptionalCoded.the-variants.{Coded}
+use Rattle.record.specs.Numbers.{recordSize}
+use Rattle.record.specs.Parsing.{codedIn}
+use Rattle.record.specs.Recorded.{codedByRecord}
+use Rattle.storing.specs.Storing.{storedRecord}
+use Rattle.table.specs.Table.{fetched}
 use Rattle.payload.specs.Payload.{Payload}
-use Rattle.calls.specs.Calls.{Description, decoded, encoded, clearedField, runtimeRead}
+use Rattle.calls.specs.Calls.{Description, byType, byRecord, decoded, encoded, clearedField, runtimeRead, keyName}
 use Rattle.dct.specs.Boundary.{startAnswer, placesFetched}
 
 -- a number of the table of refusals
@@ -17,7 +31,8 @@ pub data Tabled : ℕ → Type 0 where
   row : (r : Refusal) → Tabled (numberOf r)
   thirty : Tabled 30
 
--- a refusal: its number and counts of 0; 30 alone says what was expected and what there is; and what is left is as it came
+-- a refusal: its number and counts of 0; 30 alone says what was expected and what there is; and what is left is `old`: what came, or the
+-- zeros or the empty part that a refusal leaves
 pub record Refuses {A : Type 0} (old : A) (s : Answer A) : Type 0 where
   pub number : ℕ
   pub tabled : Tabled number
@@ -65,12 +80,61 @@ pub record Fetches (s : Answer (List ℕ)) : Type 0 where
   pub reports : s .report ≡ wrote
   pub places : s .left ≡ record-at ∷ store-at ∷ store-len ∷ []
 
--- Every call, by a coded type or by its record, for every input. What is left is all that a call can change beside its report: of a decode
--- the output, of an encode and a clear the payload with its used length, of a read the place of the part, which is 0 where there is none, and
--- of a fetch the places, which are then zeros.
+-- a read that hands back the part itself
+pub record HandsBack (payload : List ℕ) (at count : ℕ) (s : Answer (List ℕ)) : Type 0 where
+  pub reports : s .report ≡ read (8 * length (s .left)) (length (s .left))
+  pub part : s .left ≡ cut at count payload
+
+-- a key name: some part of the store, which may be empty; the contract says which
+pub record Names (store : List ℕ) (s : Answer (List ℕ)) : Type 0 where
+  pub at : ℕ
+  pub size : ℕ
+  pub reports : s .report ≡ wrote
+  pub part : s .left ≡ cut at size store
+
+-- a record that is stored has its size
+pub record Stores (s : Answer (List ℕ)) : Type 0 where
+  pub reports : s .report ≡ wrote
+  pub size : length (s .left) ≡ recordSize
+
+-- a call that is lent nothing to change: it makes something, of which this holds,
+pub record Gives {A : Type 0} (Good : A → Type 0) (o : Outcome A) : Type 0 where
+  pub made : A
+  pub good : Good made
+  pub is : o ≡ gives made
+
+-- or it refuses with a number of the table, and never with 30
+pub record TurnsDown {A : Type 0} (o : Outcome A) : Type 0 where
+  pub refusal : Refusal
+  pub is : o ≡ refuses refusal
+  pub not-0 : numberOf refusal ≡ 0 → ⊥
+  pub not-30 : numberOf refusal ≡ 30 → ⊥
+
+abbrev pub Makes : {A : Type 0} → (A → Type 0) → Outcome A → Type 0
+Makes Good o = Gives Good o ⊎ TurnsDown o
+
+-- The calls that take a description, for every input. What is left is all that a call can change beside its report: of a decode the output,
+-- of an encode and a clear the payload with its used length, and of a read from C the place of the part, which is 0 where there is none. A
+-- read and a key name hand back a part, which is empty then.
+pub record Described (d : Description) : Type 0 where
+  pub decode : (store payload : List ℕ) (at pos : ℕ) (output : List ℕ) → Ends (Decodes output) output (decoded d store payload at pos output)
+  pub encode : (store input : List ℕ) (p : Payload) (at pos : ℕ) → Ends (Encodes p) p (encoded d store input p at pos)
+  pub clear : (store : List ℕ) (p : Payload) (at pos : ℕ) → Ends (Clears p) p (clearedField d store p at pos)
+  pub read : (store payload : List ℕ) (at count : ℕ) → Ends (Reads payload) 0 (startAnswer at (runtimeRead d store payload at count))
+  pub read-part : (store payload : List ℕ) (at count : ℕ) → Ends (HandsBack payload at count) [] (runtimeRead d store payload at count)
+  pub key-name : (store : List ℕ) → Ends (Names store) [] (keyName d store)
+
+-- Every public call that can refuse; `new_high_low_byte_order` is `new` with true. A coded type is any at all: also one that no record can say, and one that `new` would refuse. So is a record: any bytes.
+-- A refused fetch leaves zeros in place of the places that C is told, and a refused `record_of` the old bytes. `new-limits` is the `new` of
+-- MinMaxLengthType, and `new` that of DiagCodedType.
 pub record Demand1 : Type 0 where
-  pub decode : (d : Description) (store payload : List ℕ) (at pos : ℕ) (output : List ℕ) → Ends (Decodes output) output (decoded d store payload at pos output)
-  pub encode : (d : Description) (store input : List ℕ) (p : Payload) (at pos : ℕ) → Ends (Encodes p) p (encoded d store input p at pos)
-  pub clear : (d : Description) (store : List ℕ) (p : Payload) (at pos : ℕ) → Ends (Clears p) p (clearedField d store p at pos)
-  pub read : (d : Description) (store payload : List ℕ) (at count : ℕ) → Ends (Reads payload) 0 (startAnswer at (runtimeRead d store payload at count))
+  pub by-type : (t : DiagCodedType) → Described (byType t)
+  pub by-record : (bytes : List ℕ) → Described (byRecord bytes)
   pub fetch : (table : List ℕ) (number : ℕ) → Ends Fetches (0 ∷ 0 ∷ 0 ∷ []) (placesFetched table number)
+  pub record-of : (t : DiagCodedType) (old : List ℕ) → Ends Stores old (storedRecord t old)
+  pub new-limits : (min : ℕ) (max : MaxLength) (e : Termination)
+      → Makes (λ m. (m .«min_length» ≡ min) × (m .«max_length» ≡ max) × (m .termination ≡ e)) (newMinMax min max e)
+  pub new : (t : DataType) (v : DiagCodedTypeVariant) (highLow : Bool)
+      → Makes (λ c. (c .«base_datatype» ≡ t) × (c .«type_» ≡ v) × (c .«is_high_low_byte_order» ≡ highLow)) (newCodedType t v highLow)
+  pub coded-by-record : (bytes : List ℕ) (store a b used : ℕ) → Makes (λ t. codedIn bytes ≡ Coded t) (codedByRecord bytes store a b used)
+  pub fetch-entry : (table : List ℕ) (number : ℕ) → Makes (λ e. e .«store_at» + e .«store_len» .0 ≡ length table) (fetched table number)

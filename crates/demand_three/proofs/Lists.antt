@@ -1,11 +1,10 @@
--- Worked lists of fields: who owns what, what is built, what a change makes of it and what is read back, as one table that the checker
+-- Worked lists of fields, in the field layer: who owns what, what is built, what a change makes of it and what is read back, as one table that the checker
 -- computes.
 use mathlib.Core.Path.{_≡_, refl}
 use mathlib.Core.Bool.{Bool, true, cond}
-use mathlib.Core.List.{List, [], _∷_, _++_, List·Permᴰ·swap, Permᴰ·refl}
-use Prim.Native.Nat.{ℕ, zero, suc, _≤_, _<_}
-use native.Mathlib.Omega.{arith}
-use lib.ListN.{length, getD, take, drop, replicate}
+use mathlib.Core.List.{List, [], _∷_, _++_}
+use Prim.Native.Nat.{ℕ}
+use lib.ListN.{length, take, replicate}
 use lib.Count.{ones}
 use lib.Dec.{eqb}
 use Rattle.kinds.proofs.Examples.{Example, equal, hold, _is_}
@@ -13,12 +12,10 @@ use Rattle.kinds.specs.Types.{bytesFor}
 use Rattle.kinds.specs.declared.types.DataType.{DataType}
 use Rattle.kinds.specs.declared.types.DataType.the-variants.{Int32, UInt32, Float32, ByteField}
 use Rattle.kinds.specs.declared.types.ByteOrder.the-variants.{Keep, Reverse}
-use Rattle.kinds.specs.Answers.{read}
-use Rattle.kinds.specs.Outcomes.{Answer, answer}
+use Rattle.kinds.specs.Outcomes.{Answer}
 use Rattle.order.specs.Order.{ordered}
 use Rattle.bits.specs.Bits.{bit, bitAt, number, packed}
 use Rattle.bits.specs.Moves.{first, extracted, injected, overlaid}
-use Rattle.bits.proofs.Bytes.{bitAt-out}
 use Rattle.masks.specs.Mask.{Mask, noMask, plainMask, condensedMask}
 use Rattle.masks.specs.Plain.{maskBit}
 use Rattle.condensed.specs.Condensed.{frontBit, onesBelow, gathered, onesOf, condensed, replacement, replaced}
@@ -30,20 +27,19 @@ use Rattle.unpack.specs.Found.{readAnswer}
 use Rattle.unpack.specs.Unpacked.{unpacked}
 use Rattle.readers.specs.Finding.{bitsFinding}
 use Rattle.ownership.specs.Ownership.{footprint, owns}
-use Rattle.demand_three.specs.Changing.{Placed, Entry, with, readBack, zeros, build, allAccepted, cutOf, apartBelow, apartFrom, disjoint, wholeOrShort, insideBytes, unmasked, change, Changed}
-use Rattle.demand_three.proofs.Changed.{demand-3}
+use Rattle.demand_three.specs.Changing.{Placed, cutOf, apartBelow, fieldWay, zeros, wholeOrShort, insideBytes, unmasked, Entry, build, change, allAccepted, apartFrom, disjoint}
 
 -- fields of so many bits at a byte and a bit position
-abbrev high : ℕ → ℕ → ℕ → Placed
+abbrev pub high : ℕ → ℕ → ℕ → Placed
 high len at pos = record { type = UInt32; order = Keep; len = len; mask = noMask; at = at; pos = pos }
 
-abbrev low : ℕ → ℕ → ℕ → Placed
+abbrev pub low : ℕ → ℕ → ℕ → Placed
 low len at pos = record { type = UInt32; order = Reverse; len = len; mask = noMask; at = at; pos = pos }
 
 abbrev under : Mask → Placed → Placed
 under mask f = record { type = f .type; order = f .order; len = f .len; mask = mask; at = f .at; pos = f .pos }
 
-abbrev plain : List ℕ → Placed → Placed
+abbrev pub plain : List ℕ → Placed → Placed
 plain mask f = under (plainMask mask) f
 
 abbrev condensedBy : List ℕ → Placed → Placed
@@ -52,33 +48,36 @@ condensedBy mask f = under (condensedMask mask) f
 abbrev typed : DataType → Placed → Placed
 typed t f = record { type = t; order = f .order; len = f .len; mask = f .mask; at = f .at; pos = f .pos }
 
+abbrev with : Placed → List ℕ → Entry fieldWay
+with f v = record { told = f; value = v }
+
 abbrev flag : Bool → ℕ
 flag b = cond b 1 0
 
-abbrev footprints : ℕ → List Entry → List ℕ
+abbrev footprints : ℕ → List (Entry fieldWay) → List ℕ
 footprints n [] = []
-footprints n (e ∷ l) = footprint (cutOf (e .field)) n ++ footprints n l
+footprints n (e ∷ l) = footprint (cutOf (e .told)) n ++ footprints n l
 
 -- all accepted in n bytes, and own bits disjoint
-abbrev judged : ℕ → List Entry → List ℕ
-judged n l = flag (allAccepted n l) ∷ flag (disjoint n l) ∷ []
+abbrev judged : ℕ → List (Entry fieldWay) → List ℕ
+judged n l = flag (allAccepted fieldWay n l) ∷ flag (disjoint fieldWay n l) ∷ []
 
 -- the bits that each field owns, what is built, and what it is after the first field's value is changed
-abbrev changed : ℕ → List Entry → List ℕ → List ℕ
+abbrev changed : ℕ → List (Entry fieldWay) → List ℕ → List ℕ
 changed n [] v = []
 changed n (e ∷ l) v =
     judged n (e ∷ l)
     ++ (footprints n (e ∷ l)
-    ++ (build (e ∷ l) (zeros n) .bytes
-    ++ change (e .field) v (build (e ∷ l) (zeros n)) .left .bytes))
+    ++ (build fieldWay (e ∷ l) (zeros n) .bytes
+    ++ change fieldWay (e .told) v (build fieldWay (e ∷ l) (zeros n)) .left .bytes))
 
 abbrev apartly : List ℕ → List ℕ → List ℕ → List ℕ
 apartly owned built new = 1 ∷ 1 ∷ (owned ++ (built ++ new))
 
 -- accepted and apart, what a change of the first field makes, and what building anew does
-abbrev against : ℕ → List Entry → List ℕ → List ℕ
+abbrev against : ℕ → List (Entry fieldWay) → List ℕ → List ℕ
 against n [] v = []
-against n (e ∷ l) v = judged n (e ∷ l) ++ (change (e .field) v (build (e ∷ l) (zeros n)) .left .bytes ++ build (with (e .field) v ∷ l) (zeros n) .bytes)
+against n (e ∷ l) v = judged n (e ∷ l) ++ (change fieldWay (e .told) v (build fieldWay (e ∷ l) (zeros n)) .left .bytes ++ build fieldWay (with (e .told) v ∷ l) (zeros n) .bytes)
 
 -- the premises of the read-back: length, place, mask, and of the value its size, that it is bytes, and its bits
 abbrev premises : Placed → List ℕ → List ℕ
@@ -99,7 +98,7 @@ abbrev flat : Answer (List ℕ) → List ℕ
 flat a = take 3 (a .report) ++ a .left
 
 abbrev into : List ℕ → ℕ → Placed → List ℕ → List ℕ
-into output n f v = flat (readBack f (change f v (payloadOf (replicate n 0xFF) n) .left) output)
+into output n f v = flat (fieldWay .readBack f (change fieldWay f v (payloadOf (replicate n 0xFF) n) .left .bytes) output)
 
 abbrev back : ℕ → Placed → List ℕ → List ℕ
 back n f v = premises f v ++ into (replicate 3 0xEE) n f v
@@ -170,26 +169,3 @@ examples =
 all-hold : hold examples ≡ true
 unfolding examples ordered bit bitAt number packed extracted injected overlaid maskBit frontBit onesBelow gathered onesOf condensed replacement replaced standardBits cleared readied spliced inCutOut grown writing clearing readAnswer unpacked bitsFinding footprint owns build allAccepted apartBelow apartFrom disjoint ones
 all-hold = refl
-
--- the premises can be met: the theorem for two fields across the same bytes, built in one order and anew in the other
-abbrev across : List Entry
-across = with (high 8 0 4) (0xCD ∷ []) ∷ []
-
-two-across : Changed 2 [] across (low 8 0 4) (0xAB ∷ []) (0x5A ∷ []) (with (low 8 0 4) (0xAB ∷ []) ∷ across) (with (high 8 0 4) (0xCD ∷ []) ∷ with (low 8 0 4) (0x5A ∷ []) ∷ [])
-unfolding ordered bit bitAt number packed injected overlaid standardBits cleared readied spliced inCutOut grown writing footprint owns build allAccepted apartBelow apartFrom disjoint
-two-across =
-    demand-3 2 [] across (low 8 0 4) (0xAB ∷ []) (0x5A ∷ []) (with (low 8 0 4) (0xAB ∷ []) ∷ across) (with (high 8 0 4) (0xCD ∷ []) ∷ with (low 8 0 4) (0x5A ∷ []) ∷ [])
-    (record { small = omega arith; all-accepted = refl; own-disjoint = refl; one-order = Permᴰ·refl _; other-order = List·Permᴰ·swap refl refl })
-
--- and those of the read-back: a field of one byte, alone
-small-bytes : (j : ℕ) → getD (0xA5 ∷ []) j 0 < 256
-small-bytes zero = omega arith
-small-bytes (suc j) = omega arith
-
-alone : (output : List ℕ) → 1 ≤ length output
-    → readBack (high 8 0 0) (change (high 8 0 0) (0xA5 ∷ []) (build (with (high 8 0 0) [] ∷ []) (zeros 1)) .left) output ≡ answer (read 8 1) (0xA5 ∷ drop 1 output)
-unfolding ordered bit bitAt number packed injected overlaid standardBits cleared readied spliced inCutOut grown writing footprint owns build allAccepted apartBelow apartFrom disjoint
-alone output room =
-    demand-3 1 [] [] (high 8 0 0) [] (0xA5 ∷ []) (with (high 8 0 0) [] ∷ []) (with (high 8 0 0) (0xA5 ∷ []) ∷ [])
-    (record { small = omega arith; all-accepted = refl; own-disjoint = refl; one-order = Permᴰ·refl _; other-order = Permᴰ·refl _ })
-    .d refl refl refl (record { fills = refl; bytes = small-bytes; fits = λ i l. bitAt-out (0xA5 ∷ []) i (omega arith) }) output room

@@ -1,11 +1,11 @@
--- A value that fits its field is read back as it is.
+-- A value that fits its field is read back as it is, whatever is behind the message.
 use mathlib.Core.Path.{_≡_, refl, sym, ap, _∙_}
 use mathlib.Core.Logic.{⊎-elim}
 use mathlib.Core.Bool.{true, false, true≢false}
 use mathlib.Core.List.{List, _++_}
 use Prim.Native.Nat.{ℕ, _+_, _-_, _*_, _%_, _≤_, _<_}
 use native.Mathlib.Omega.{arith}
-use lib.ListN.{length, drop}
+use lib.ListN.{length, drop, length-append}
 use lib.Dec.{eqb}
 use borrow.Author.Tests.{leb-true, lt-leb, le-ltb, ne-eqb}
 use Rattle.kinds.specs.declared.types.DataType.{DataType}
@@ -24,13 +24,14 @@ use Rattle.bits.proofs.Moves.{first-in, first-out}
 use Rattle.masks.specs.Mask.{Mask, noMask, plainMask, condensedMask}
 use Rattle.pack.specs.Source.{aligned, trimmed, standardBits}
 use Rattle.payload.specs.Writing.{cutBytes}
+use Rattle.payload.proofs.Splices.{cut-append}
 use Rattle.unpack.specs.Found.{found, readAnswer}
 use Rattle.unpack.specs.Unpacked.{unpacked, unpackedFound}
 use Rattle.unpack.proofs.Rooms.{has-room, fits}
-use Rattle.readers.specs.Finding.{bitsFinding, fieldFinding, decodeOf}
+use Rattle.readers.specs.Finding.{bitsFinding, fieldFinding}
 use Rattle.ownership.proofs.Effects.{writtenIn, clearedIn}
 use Rattle.ownership.proofs.Rewritten.{stands}
-use Rattle.demand_three.specs.Changing.{Placed, fieldAt, cutOf, wholeOrShort, insideBytes, unmasked, Exact}
+use Rattle.demand_three.specs.Changing.{Placed, cutOf, fieldAt, fieldWay, wholeOrShort, insideBytes, unmasked, Exact}
 use Rattle.demand_three.proofs.Calls.{Taken, bitsOf, writable}
 
 -- ---- the source of an exact value is its bits
@@ -95,14 +96,18 @@ module _ (n : ℕ) (f : Placed) (t : Taken n f) (whole : wholeOrShort (f .len) �
       ⊎-elim (λ (l : i < f .len). first-in (f .len) taken i l ∙ bit-back i l) (λ (l : f .len ≤ i). first-out (f .len) taken i l ∙ sym (exact .fits i l)) (below i (f .len)))
       ∙ ap (λ (m : ℕ). packed m (bitAt v)) (sym (exact .fills)) ∙ repack v (exact .bytes)
 
-  -- decode refuses nothing that encode accepts
-  finds : length ys ≡ n → fieldFinding (fieldAt f) ys (f .at) (f .pos) ≡ gives (found (f .len) v)
-  unfolding bitsFinding unpacked
-  finds long-ys =
-      let room = t .inside in
-      rw (t .numeric, orElse-passed (bitLengthRefusal (f .type) (f .len)) _ (t .allowed) .0, le-ltb (length ys) (saturatingSum (f .at) (bytesFor (f .len))) (omega (arith, one-cut, long-ys, room)), fits (f .len) (f .pos) (bytesFor (f .len)) (t .seven) ends)
-      (ap (λ (m : Mask). gives (unpackedFound m (f .len) (f .pos) zs)) no-mask ∙ ap (λ (b : List ℕ). gives (found (f .len) b)) value-back)
+  module _ (rest : List ℕ) (long-ys : length ys ≡ n) where
+    inside-ys : f .at + bytesFor (f .len) ≤ length ys
+    inside-ys = rw long-ys (let g = t .inside in omega (arith, one-cut))
 
-  pub reads-back : length ys ≡ n → (output : List ℕ) → bytesFor (f .len) ≤ length output
-      → decodeOf (fieldAt f) ys (f .at) (f .pos) output ≡ answer (read (f .len) (bytesFor (f .len))) (v ++ drop (bytesFor (f .len)) output)
-  reads-back long-ys output room = ap (readAnswer output) (finds long-ys) ∙ has-room (found (f .len) v) output (bytesFor (f .len)) (exact .fills) room
+    -- decode refuses nothing that encode accepts
+    finds : fieldFinding (fieldAt f) (ys ++ rest) (f .at) (f .pos) ≡ gives (found (f .len) v)
+    unfolding bitsFinding unpacked
+    finds =
+        let size = length-append ys rest in
+        rw (t .numeric, orElse-passed (bitLengthRefusal (f .type) (f .len)) _ (t .allowed) .0, le-ltb (length (ys ++ rest)) (saturatingSum (f .at) (bytesFor (f .len))) (omega (arith, inside-ys, size)), cut-append (f .at) (bytesFor (f .len)) ys rest inside-ys, fits (f .len) (f .pos) (bytesFor (f .len)) (t .seven) ends)
+        (ap (λ (m : Mask). gives (unpackedFound m (f .len) (f .pos) zs)) no-mask ∙ ap (λ (b : List ℕ). gives (found (f .len) b)) value-back)
+
+    pub reads-back : (output : List ℕ) → bytesFor (f .len) ≤ length output
+        → fieldWay .readBack f (ys ++ rest) output ≡ answer (read (f .len) (bytesFor (f .len))) (v ++ drop (bytesFor (f .len)) output)
+    reads-back output room = ap (readAnswer output) finds ∙ has-room (found (f .len) v) output (bytesFor (f .len)) (exact .fills) room

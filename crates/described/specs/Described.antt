@@ -1,4 +1,4 @@
--- Document 01, 'Order', after the slices: what a coded type's own description is refused for, and then the call's own.
+-- RULES 11.2, after the slices: what a coded type's own description is refused for, and then the call's own.
 use Prim.Native.Nat.{ℕ}
 use mathlib.Core.List.{List}
 use lib.ListN.{length}

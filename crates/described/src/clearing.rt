@@ -9,6 +9,7 @@ ghost use Rattle.payload.specs.Payload.{payloadOf, writeAnswer};
 ghost use Rattle.clear.specs.Clear.{fieldClearing};
 ghost use Rattle.described.specs.Described.{described};
 use coded::DiagCodedType;
+use kinds::ByteCount;
 use kinds::Check;
 use kinds::Writing;
 
@@ -25,7 +26,7 @@ pub fn clear_described(
     requires { ⌜ used ≤ length (now «uds_payload») ⌝ }
     ensures { λ r. ⌜ answer (reportOfWriting r) (payloadOf (now («uds_payload» .exit)) used) ≡ writeAnswer (payloadOf (now («uds_payload» .entry)) used) (described «coded_type» (now (store .entry)) (λ t. fieldClearing (fieldOf t (now (store .entry))) (payloadOf (now («uds_payload» .entry)) used) «byte_pos» «bit_pos»)) ⌝ }
 {
-    match field::validate_description(coded_type, store.len()) {
+    match field::validate_description(coded_type, ByteCount(store.len())) {
         Check::Refused(refusal) => Writing::Refused(refusal),
         Check::Passed => {
             let base_datatype = coded_type.base_datatype;

@@ -9,6 +9,7 @@ ghost use Rattle.unpack.specs.Found.{readAnswer};
 ghost use Rattle.readers.specs.Finding.{fieldFinding};
 ghost use Rattle.described.specs.Described.{described};
 use coded::DiagCodedType;
+use kinds::ByteCount;
 use kinds::Check;
 use kinds::Reading;
 
@@ -24,7 +25,7 @@ pub fn decode_described(
     requires { ⌜ length (now «uds_payload») ≤ 65535 ⌝ }
     ensures { λ r. ⌜ answer (reportOfReading r) (now (output .exit)) ≡ readAnswer (now (output .entry)) (described «coded_type» (now (store .entry)) (λ t. fieldFinding (fieldOf t (now (store .entry))) (now («uds_payload» .entry)) «byte_pos» «bit_pos»)) ⌝ }
 {
-    match field::validate_description(coded_type, store.len()) {
+    match field::validate_description(coded_type, ByteCount(store.len())) {
         Check::Refused(refusal) => Reading::Refused(refusal),
         Check::Passed => {
             let base_datatype = coded_type.base_datatype;

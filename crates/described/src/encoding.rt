@@ -9,6 +9,7 @@ ghost use Rattle.payload.specs.Payload.{payloadOf, writeAnswer};
 ghost use Rattle.writers.specs.Shapes.{fieldEncoding};
 ghost use Rattle.described.specs.Described.{described};
 use coded::DiagCodedType;
+use kinds::ByteCount;
 use kinds::Check;
 use kinds::Writing;
 
@@ -27,7 +28,7 @@ pub fn encode_described(
     requires { ⌜ now used ≤ length (now «uds_payload») ⌝ }
     ensures { λ r. ⌜ answer (reportOfWriting r) (payloadOf (now («uds_payload» .exit)) (now (used .exit))) ≡ writeAnswer (payloadOf (now («uds_payload» .entry)) (now (used .entry))) (described «coded_type» (now (store .entry)) (λ t. fieldEncoding (fieldOf t (now (store .entry))) (now («input_data» .entry)) (payloadOf (now («uds_payload» .entry)) (now (used .entry))) «byte_pos» «bit_pos»)) ⌝ }
 {
-    match field::validate_description(coded_type, store.len()) {
+    match field::validate_description(coded_type, ByteCount(store.len())) {
         Check::Refused(refusal) => Writing::Refused(refusal),
         Check::Passed => {
             let base_datatype = coded_type.base_datatype;

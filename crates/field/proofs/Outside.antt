@@ -21,6 +21,6 @@ less-room n at len h =
 pub part-le : (store : List ℕ) (p : OptionalPlace) {n : ℕ} → length store ≤ n → length (partAt store p) ≤ n
 part-le store Absent h = omega arith
 part-le store (At p) h =
-    ⊎-elim (λ (l : length store < p .at + p .len). rw (lt-ltb (length store) (p .at + p .len) l) (omega arith))
-    (λ (l : p .at + p .len ≤ length store). rw (le-ltb (length store) (p .at + p .len) l) (simp (length-take, length-drop) (omega arith)))
-    (below (length store) (p .at + p .len))
+    ⊎-elim (λ (l : length store < p .at + p .len .0). rw (lt-ltb (length store) (p .at + p .len .0) l) (omega arith))
+    (λ (l : p .at + p .len .0 ≤ length store). rw (le-ltb (length store) (p .at + p .len .0) l) (simp (length-take, length-drop) (omega arith)))
+    (below (length store) (p .at + p .len .0))

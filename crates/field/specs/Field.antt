@@ -22,15 +22,23 @@ use Rattle.field.specs.declared.Shape.the-variants as shape
 
 -- a part that ends past a store of n bytes
 abbrev pub outside : Place → ℕ → Bool
-outside p n = ltb n (p .at + p .len)
+outside p n = ltb n (p .at + p .len .0)
 
 -- a part of the store, and nothing where it is outside
 abbrev pub partOf : List ℕ → Place → List ℕ
-partOf store p = cond (outside p (length store)) [] (cut (p .at) (p .len) store)
+partOf store p = cond (outside p (length store)) [] (cut (p .at) (p .len .0) store)
 
 abbrev pub partAt : List ℕ → OptionalPlace → List ℕ
 partAt store (place.At p) = partOf store p
 partAt store place.Absent = []
+
+-- where it starts in a store of n bytes, and 0 where there is none
+abbrev pub startOf : ℕ → Place → ℕ
+startOf n p = cond (outside p n) 0 (p .at)
+
+abbrev pub startAt : ℕ → OptionalPlace → ℕ
+startAt n (place.At p) = startOf n p
+startAt n place.Absent = 0
 
 -- the part of the store that a variant speaks of: a mask, or a key name
 abbrev pub storePlace : DiagCodedTypeVariant → OptionalPlace

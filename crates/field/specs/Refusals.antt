@@ -1,4 +1,4 @@
--- Document 01, 'Order', up to 11: what is refused before a call's own rules.
+-- RULES 11.2: what is refused before a call's own rules.
 use Prim.Native.Nat.{ℕ}
 use mathlib.Core.List.{[], _∷_}
 use lib.Dec.{ltb}

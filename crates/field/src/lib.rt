@@ -1,7 +1,10 @@
 // A coded type with its store taken apart into a field: what its variant says, its mask as a part of the store, and what is
 // refused before a call's own rules.
 ghost use mathlib.Core.Path.{_≡_};
-ghost use Rattle.field.specs.Field.{outside, partOf, partAt, storePlace, useAt, useOf, shapeOf};
+ghost use lib.ListN.{length};
+ghost use denote.Ref.{ptr};
+ghost use Rattle.kinds.specs.Slices.{behind};
+ghost use Rattle.field.specs.Field.{outside, partOf, partAt, startOf, startAt, storePlace, useAt, useOf, shapeOf};
 ghost use Rattle.field.specs.Refusals.{slicesRefusal, placeRefusal, descriptionRefusal};
 use coded::DiagCodedType;
 use coded::DiagCodedTypeVariant;
@@ -9,6 +12,7 @@ use coded::MinMaxLengthType;
 use coded::OptionalPlace;
 use coded::Place;
 use kinds::BitLength;
+use kinds::ByteCount;
 use kinds::Check;
 use kinds::Refusal;
 use kinds::SLICE_LIMIT;
@@ -78,31 +82,34 @@ pub fn use_of(type_: DiagCodedTypeVariant) -> MaskUse
     }
 }
 
-fn is_outside(place: Place, store_len: usize) -> bool
-    ensures { λ r. ⌜ r ≡ outside place «store_len» ⌝ }
+fn is_outside(place: Place, store_len: ByteCount) -> bool
+    ensures { λ r. ⌜ r ≡ outside place («store_len» .0) ⌝ }
 {
     let at = place.at;
-    if store_len < at {
+    let end = store_len.bytes();
+    if end < at {
         return true;
     }
-    store_len - at < place.len
+    end - at < place.len.bytes()
 }
 
 // A part of the store, lent on, and the empty part where it is outside.
 fn part<'a>(store: &'a [u8], place: Place) -> &'a [u8]
     ensures { λ r. ⌜ now r ≡ partOf (now (store .entry)) place ⌝ }
+    ensures { λ r. ⌜ ptr r ≡ behind (startOf (length (now (store .entry))) place) (ptr (store .entry)) ⌝ }
 {
-    if is_outside(place, store.len()) {
+    if is_outside(place, ByteCount(store.len())) {
         return &store[..0];
     }
     let at = place.at;
-    let end = at + place.len;
+    let end = at + place.len.bytes();
     &store[at..end]
 }
 
 // The part of the store at an optional place, and the empty part where there is none.
 pub fn part_at<'a>(store: &'a [u8], place: OptionalPlace) -> &'a [u8]
     ensures { λ r. ⌜ now r ≡ partAt (now (store .entry)) place ⌝ }
+    ensures { λ r. ⌜ ptr r ≡ behind (startAt (length (now (store .entry))) place) (ptr (store .entry)) ⌝ }
 {
     match place {
         OptionalPlace::At(there) => part(store, there),
@@ -120,35 +127,35 @@ pub fn store_part<'a>(store: &'a [u8], type_: DiagCodedTypeVariant) -> &'a [u8]
 // 43 of a record, a store and two other slices, and 44 of the last of them, with so many bytes used. Where a call lends fewer, or
 // none is used, the numbers are 0.
 pub fn validate_slices(
-    record_len: usize,
-    store_len: usize,
-    first_len: usize,
-    second_len: usize,
+    record_len: ByteCount,
+    store_len: ByteCount,
+    first_len: ByteCount,
+    second_len: ByteCount,
     used: usize,
 ) -> Check
-    ensures { λ r. ⌜ r ≡ slicesRefusal «record_len» «store_len» «first_len» «second_len» used ⌝ }
+    ensures { λ r. ⌜ r ≡ slicesRefusal («record_len» .0) («store_len» .0) («first_len» .0) («second_len» .0) used ⌝ }
 {
-    if SLICE_LIMIT < record_len {
+    if SLICE_LIMIT < record_len.bytes() {
         return Check::Refused(Refusal::SliceTooLong);
     }
-    if STORE_LIMIT < store_len {
+    if STORE_LIMIT < store_len.bytes() {
         return Check::Refused(Refusal::SliceTooLong);
     }
-    if SLICE_LIMIT < first_len {
+    if SLICE_LIMIT < first_len.bytes() {
         return Check::Refused(Refusal::SliceTooLong);
     }
-    if SLICE_LIMIT < second_len {
+    if SLICE_LIMIT < second_len.bytes() {
         return Check::Refused(Refusal::SliceTooLong);
     }
-    if second_len < used {
+    if second_len.bytes() < used {
         return Check::Refused(Refusal::UsedPastSlice);
     }
     Check::Passed
 }
 
 // 42, of the part of the store that a coded type speaks of.
-fn validate_place(place: OptionalPlace, store_len: usize) -> Check
-    ensures { λ r. ⌜ r ≡ placeRefusal place «store_len» ⌝ }
+fn validate_place(place: OptionalPlace, store_len: ByteCount) -> Check
+    ensures { λ r. ⌜ r ≡ placeRefusal place («store_len» .0) ⌝ }
 {
     match place {
         OptionalPlace::At(there) => {
@@ -162,8 +169,8 @@ fn validate_place(place: OptionalPlace, store_len: usize) -> Check
 }
 
 // 42, 12, 13, 10 and 11, however the coded type was made.
-pub fn validate_description(coded_type: DiagCodedType, store_len: usize) -> Check
-    ensures { λ r. ⌜ r ≡ descriptionRefusal «coded_type» «store_len» ⌝ }
+pub fn validate_description(coded_type: DiagCodedType, store_len: ByteCount) -> Check
+    ensures { λ r. ⌜ r ≡ descriptionRefusal «coded_type» («store_len» .0) ⌝ }
 {
     let type_ = coded_type.type_;
     match validate_place(store_place(type_), store_len) {

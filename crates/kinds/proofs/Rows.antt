@@ -71,9 +71,16 @@ tells r = eqb (place (refusalOf (numberOf r))) (place r)
 abbrev differs : ℕ → Refusal → Bool
 differs n r = not (eqb (numberOf r) n)
 
+-- a test that each row passes
+abbrev pub eachRow : (Refusal → Bool) → Bool
+eachRow p = all parts tt (λ c. p (make c))
+
+pub of-each-row : (p : Refusal → Bool) → eachRow p ≡ true → (r : Refusal) → p r ≡ true
+of-each-row p e r = subst (λ (s : Refusal). p s ≡ true) (eta r) (every parts tt (λ c. p (make c)) e (as-values r))
+
 row : (r : Refusal) → (tells r ≡ true) × (differs 0 r ≡ true) × (differs 30 r ≡ true)
 row r =
-    let all-three = subst (λ (s : Refusal). (tells s && (differs 0 s && differs 30 s)) ≡ true) (eta r) (every parts tt (λ c. tells (make c) && (differs 0 (make c) && differs 30 (make c))) refl (as-values r)) in
+    let all-three = of-each-row (λ s. tells s && (differs 0 s && differs 30 s)) refl r in
     let one = both (tells r) (differs 0 r && differs 30 r) all-three in
     let two = both (differs 0 r) (differs 30 r) (one .1) in
     (one .0, two .0, two .1)

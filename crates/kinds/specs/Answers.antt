@@ -1,4 +1,4 @@
--- Document 01, 'Refusal numbers': the number of each refusal, and what each answer reports.
+-- RULES 10: the number of each refusal, and what each answer reports.
 use Prim.Native.Nat.{ℕ}
 use mathlib.Core.List.{List, [], _∷_}
 use Rattle.kinds.specs.declared.refusals.Refusal.{Refusal}

@@ -1,4 +1,4 @@
--- How the code tells where a field's bits are; no part of document 01.
+-- How the code tells where a field's bits are; no part of RULES.
 use Prim.Native.Nat.{ℕ}
 use Rattle.kinds.specs.declared.refusals.PosInfo.{PosInfo}
 use Rattle.kinds.specs.declared.refusals.PosInfo.the-variants.{Found, NotEnoughData, Refused}

@@ -1,8 +1,9 @@
--- The types, positions in a slice, the table of refusals, the words for outcomes and answers, and the checks 20 to 25, in document 01's
--- words; and in `CodePlaces` how the code tells a place.
+-- The types, positions in a slice, the table of refusals, the words for outcomes and answers, and the checks 20 to 25, in the
+-- words of RULES; and in `CodePlaces` how the code tells a place.
 pub mod Types
 pub mod Slices
 pub mod Answers
+pub mod Classes
 pub mod Outcomes
 pub mod Refusals
 pub mod CodePlaces

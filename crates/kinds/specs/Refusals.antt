@@ -1,4 +1,4 @@
--- Document 01, rows 20 to 25 of the refusals, in the order of its paragraph 'Order'.
+-- RULES 10, the numbers 20 to 25, in the order of RULES 11.
 use Prim.Native.Nat.{ℕ, _%_}
 use mathlib.Core.Bool.{not, _&&_}
 use mathlib.Core.List.{[], _∷_}

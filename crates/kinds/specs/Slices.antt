@@ -1,4 +1,4 @@
--- Document 01, 'Domain' and 'Order': how long a slice may be, sums of positions, and the bytes at a place.
+-- RULES 1.1, 1.3: how long a slice may be, sums of positions, and the bytes at a place.
 use Prim.Native.Nat.{ℕ, _+_, min}
 use mathlib.Core.List.{List}
 use lib.ListN.{take, drop}
@@ -17,3 +17,7 @@ saturatingSum a b = min (a + b) 0xFFFFFFFFFFFFFFFF
 -- n bytes from at on
 abbrev pub cut : ℕ → ℕ → List ℕ → List ℕ
 cut at n xs = take n (drop at xs)
+
+-- a place in memory is a block and an offset: so many bytes behind another
+abbrev pub behind : ℕ → ℕ × ℕ → ℕ × ℕ
+behind n p = (p .0, n + p .1)

@@ -1,4 +1,4 @@
--- Document 01, 'Domain' and 'Bits and byte order': the byte types, and what becomes of the order of bytes.
+-- RULES 2.1, 3.4: the byte types, and what becomes of the order of bytes.
 use Prim.Native.Nat.{ℕ, _+_, _/_}
 use mathlib.Core.Bool.{Bool, false, cond, not, _||_}
 use mathlib.Core.List.{List, [], _∷_}

@@ -1,4 +1,4 @@
-// The refusals of document 01 as an enum, and the answers that carry them.
+// The refusals of RULES 10 as an enum, and the answers that carry them.
 ghost use mathlib.Core.Path.{_≡_};
 ghost use mathlib.Core.List.{_∷_};
 ghost use Rattle.kinds.specs.Answers.{numberOf, reportOfReading, reportOfWriting};
@@ -8,7 +8,7 @@ use super::types::ByteCount;
 // The number of what says more than its number, which is a case of its own of the answers.
 pub const NOT_ENOUGH_DATA: u32 = 30;
 
-// The other rows of document 01's table of refusals, in its order.
+// The other rows of the table of refusals, in its order.
 pub enum Refusal {
     NumericWithVariableLength,
     OddUnicodeLimits,

@@ -1,7 +1,7 @@
 // Data types, bit lengths and byte counts, byte order, and the checks of bit position and bit length.
 ghost use mathlib.Core.Path.{_≡_};
 ghost use mathlib.Core.List.{[], _∷_};
-ghost use Prim.Native.Nat.{_*_, _^_, _<_, min};
+ghost use Prim.Native.Nat.{_+_, _*_, _/_, _%_, _^_, _<_, _≤_, min};
 ghost use lib.Dec.{ltb};
 ghost use Rattle.kinds.specs.Types.{isByteType, isUnicode, byteOrder, bytesFor};
 ghost use Rattle.kinds.specs.Outcomes.{rule, firstOf};
@@ -39,6 +39,7 @@ pub enum ByteOrder {
     Reverse,
 }
 
+// Outside this file a length is neither unwrapped nor converted but by these functions. Positions of bits and bytes are plain numbers.
 impl BitLength {
     pub fn bits(self) -> usize
         ensures { λ r. ⌜ r ≡ self .0 ⌝ }
@@ -46,15 +47,35 @@ impl BitLength {
         self.0 as usize
     }
 
-    // So many bits, or fewer where there are no more.
-    pub fn at_most(self, bits: usize) -> BitLength
-        ensures { λ r. ⌜ r .0 ≡ min (self .0) «bits» ⌝ }
+    // The number that a record has for it.
+    pub fn number(self) -> u32
+        ensures { λ r. ⌜ r ≡ self .0 ⌝ }
     {
-        let most = self.0;
-        if (most as usize) < bits {
-            return BitLength(most);
+        self.0
+    }
+
+    pub fn one_more(self) -> BitLength
+        requires { ⌜ self .0 + 1 < 2 ^ 32 ⌝ }
+        ensures { λ r. ⌜ r .0 ≡ self .0 + 1 ⌝ }
+    {
+        BitLength(self.0 + 1)
+    }
+
+    // So many bits, or fewer where there are no more.
+    pub fn at_most(self, most: BitLength) -> BitLength
+        ensures { λ r. ⌜ r .0 ≡ min (self .0) (most .0) ⌝ }
+    {
+        if self.0 < most.0 {
+            return self;
         }
-        BitLength(bits as u32)
+        most
+    }
+
+    // The bits that are left of whole bytes.
+    pub fn remainder(self) -> BitLength
+        ensures { λ r. ⌜ r .0 ≡ self .0 % 8 ⌝ }
+    {
+        BitLength(self.0 % 8)
     }
 
     // The bytes that hold so many bits.
@@ -64,9 +85,25 @@ impl BitLength {
         let bits = self.0 as usize;
         ByteCount((bits + 7) / 8)
     }
+
+    // The bytes that hold so many bits from a bit position on.
+    pub fn byte_count_from(self, bit_pos: usize) -> ByteCount
+        requires { ⌜ «bit_pos» ≤ 7 ⌝ }
+        ensures { λ r. ⌜ r .0 ≡ bytesFor («bit_pos» + self .0) ⌝ }
+    {
+        let bits = self.0 as usize;
+        ByteCount((bit_pos + bits + 7) / 8)
+    }
 }
 
 impl ByteCount {
+    // So many bytes, by a number of a record.
+    pub fn of_number(number: u32) -> ByteCount
+        ensures { λ r. ⌜ r .0 ≡ number ⌝ }
+    {
+        ByteCount(number as usize)
+    }
+
     pub fn bytes(self) -> usize
         ensures { λ r. ⌜ r ≡ self .0 ⌝ }
     {
@@ -81,6 +118,28 @@ impl ByteCount {
         let bytes = self.0 as u32;
         BitLength(8 * bytes)
     }
+
+    // The position behind the last bit of so many bytes.
+    pub fn bit_end(self) -> usize
+        requires { ⌜ self .0 < 2 ^ 61 ⌝ }
+        ensures { λ r. ⌜ r ≡ 8 * self .0 ⌝ }
+    {
+        8 * self.0
+    }
+}
+
+// The byte that bit i is in, counted from the last byte, which is 0.
+pub fn byte_from_last(i: usize) -> usize
+    ensures { λ r. ⌜ r ≡ i / 8 ⌝ }
+{
+    i / 8
+}
+
+// Which bit of its byte bit i is.
+pub fn bit_in_byte(i: usize) -> usize
+    ensures { λ r. ⌜ r ≡ i % 8 ⌝ }
+{
+    i % 8
 }
 
 impl DataType {

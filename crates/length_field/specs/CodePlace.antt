@@ -1,4 +1,4 @@
--- How the code tells where the data bytes are behind a length field; no part of document 01.
+-- How the code tells where the data bytes are behind a length field; no part of RULES.
 use Prim.Native.Nat.{ℕ, _*_}
 use mathlib.Core.List.{List}
 use lib.ListN.{length}

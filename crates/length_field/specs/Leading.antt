@@ -1,4 +1,4 @@
--- Document 01, 'Decode', Leading.
+-- RULES 5.5, 5.6: the number in a length field, and where its data bytes are.
 use Prim.Native.Nat.{ℕ, zero, suc, _+_, _*_}
 use mathlib.Core.Bool.{cond, _||_}
 use mathlib.Core.List.{List, [], _∷_}

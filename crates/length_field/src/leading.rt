@@ -50,10 +50,10 @@ fn wide(length_info_bytes: &[u8], byte_order: ByteOrder) -> usize
     len
 }
 
-fn known(len: usize) -> LengthInfo
-    ensures { λ r. ⌜ r ≡ LengthInfo.Bytes (record { 0 = len }) ⌝ }
+fn known(number: usize) -> LengthInfo
+    ensures { λ r. ⌜ r ≡ LengthInfo.Bytes (record { 0 = number }) ⌝ }
 {
-    LengthInfo::Bytes(ByteCount(len))
+    LengthInfo::Bytes(ByteCount(number))
 }
 
 // The number in a length field of one, two, three, four, or five to eight bytes.
@@ -75,12 +75,12 @@ fn usize_from_bytes(length_info_bytes: &[u8], byte_order: ByteOrder) -> LengthIn
 }
 
 // The lowest bits of a number.
-fn lowest_bits(number: usize, bit_len: BitLength) -> usize
-    ensures { λ r. ⌜ r ≡ number % 2 ^ («bit_len» .0) ⌝ }
+fn lowest_bits(number: ByteCount, bit_len: BitLength) -> ByteCount
+    ensures { λ r. ⌜ r .0 ≡ number .0 % 2 ^ («bit_len» .0) ⌝ }
 {
     let bits = bit_len.bits();
     if bits < 64 {
-        return number % (1 << bits);
+        return ByteCount(number.bytes() % (1 << bits));
     }
     number
 }
@@ -103,8 +103,8 @@ fn behind_length_field(
     match usize_from_bytes(&uds_payload[byte_pos..start_pos], byte_order) {
         LengthInfo::TooWide => PosInfo::Refused(Refusal::LengthFieldTooWide),
         LengthInfo::Bytes(number) => {
-            let len = lowest_bits(number.bytes(), bits);
-            let end_pos = kinds::saturating_add(start_pos, len);
+            let len = lowest_bits(number, bits);
+            let end_pos = kinds::saturating_add(start_pos, len.bytes());
             if uds_payload.len() < end_pos {
                 return PosInfo::NotEnoughData {
                     expected: end_pos,
@@ -112,7 +112,7 @@ fn behind_length_field(
                 };
             }
             PosInfo::Found {
-                bit_len: ByteCount(len).bit_length(),
+                bit_len: len.bit_length(),
                 start_pos,
             }
         }

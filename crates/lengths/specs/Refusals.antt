@@ -1,4 +1,4 @@
--- Document 01, 'Order': what encode and clear refuse for a variant's sake, before 26 and 40 or 30.
+-- RULES 11.8 to 11.12: what encode and clear refuse for a variant's sake, before 26 and 40 or 30.
 use Prim.Native.Nat.{ℕ, _*_, _^_}
 use mathlib.Core.Bool.{Bool, true, false, _&&_}
 use mathlib.Core.List.{[], _∷_}

@@ -47,8 +47,8 @@ pub fn validate_standard(
 }
 
 // 33, 32 and 38. No shift reaches 64: a field of 64 bits holds every byte count.
-pub fn validate_leading_length(bit_len: BitLength, data_len: usize) -> Check
-    ensures { λ r. ⌜ r ≡ countRefusal («bit_len» .0) «data_len» ⌝ }
+pub fn validate_leading_length(bit_len: BitLength, data_len: ByteCount) -> Check
+    ensures { λ r. ⌜ r ≡ countRefusal («bit_len» .0) («data_len» .0) ⌝ }
 {
     let bits = bit_len.bits();
     if 64 < bits {
@@ -57,7 +57,7 @@ pub fn validate_leading_length(bit_len: BitLength, data_len: usize) -> Check
     if bits == 64 {
         return Check::Passed;
     }
-    if data_len >> bits != 0 {
+    if data_len.bytes() >> bits != 0 {
         return Check::Refused(Refusal::CountTooLarge);
     }
     if bits == 0 {

@@ -1,10 +1,10 @@
 -- Bits under a plain mask: what the code reads of it, and the bit that a loop comes to.
 use mathlib.Core.Path.{_≡_, ap, _∙_}
 use mathlib.Core.List.{List}
-use Prim.Native.Nat.{ℕ, _+_, _-_, _*_, _/_, _%_, _^_, _<_}
+use Prim.Native.Nat.{ℕ, _+_, _-_, _*_, _/_, _%_, _<_}
 use native.Mathlib.Omega.{arith}
 use lib.ListN.{length, getD, List·getD-eq-default}
-use lib.Bits.{bitAnd, and-mask}
+use lib.Bits.{bitAnd}
 use Rattle.bits.specs.Bits.{bit, bitAt}
 use Rattle.bits.specs.Moves.{within, overlaid}
 use Rattle.bits.proofs.Numbers.{Bits, bit-lt, bit-of-zero, and-two}
@@ -14,9 +14,9 @@ use Rattle.masks.specs.declared.plain.Kept.{Kept}
 use Rattle.masks.specs.declared.plain.Kept.the-variants.{UnderOnes, UnderZeros}
 use Rattle.masks.specs.Plain.{maskBit, keeps, keptBit}
 
-pub maskBit-code : (mask : List ℕ) (i j : ℕ) → j ≡ length mask - 1 - i / 8 → bitAnd (getD mask j 0 / 2 ^ (i % 8)) 1 ≡ maskBit mask i
-unfolding maskBit bit
-maskBit-code mask i j e = rw e (and-mask _ 1)
+pub maskBit-code : (mask : List ℕ) (i j : ℕ) → j ≡ length mask - 1 - i / 8 → bit (getD mask j 0) (i % 8) ≡ maskBit mask i
+unfolding maskBit
+maskBit-code mask i j e = rw e
 
 pub maskBit-empty : (mask : List ℕ) (i : ℕ) → length mask ≡ 0 → maskBit mask i ≡ 0
 unfolding maskBit

@@ -1,4 +1,4 @@
--- Worked examples of bits, order and plain masks, as one table that the checker computes. Letters are document 01's bench cases.
+-- Worked examples of bits, order and plain masks, as one table that the checker computes. Letters are the bench cases of RULES 13.
 use mathlib.Core.Path.{_≡_, refl}
 use mathlib.Core.Bool.{true}
 use mathlib.Core.List.{List, [], _∷_}

@@ -1,4 +1,4 @@
--- Document 01, 'Bits and byte order', 'Decode', 'Encode and clear': a mask in plain use.
+-- RULES 4.1, 4.2: a mask in plain use.
 use Prim.Native.Nat.{ℕ, _-_, _/_, _%_, min}
 use mathlib.Core.List.{List}
 use lib.ListN.{length, getD}

@@ -4,6 +4,7 @@ ghost use Prim.Native.Nat.{_*_, _≤_};
 ghost use lib.ListN.{length};
 ghost use Rattle.masks.specs.Plain.{maskBit, keeps, masked};
 use kinds::BitLength;
+use kinds::ByteCount;
 
 // Which bits a mask keeps. The others it clears.
 pub enum Kept {
@@ -18,10 +19,11 @@ pub fn mask_bit_at(mask: &[u8], i: usize) -> u8
     if mask.len() == 0 {
         return 0;
     }
-    if i / 8 < mask.len() {
-        return (mask[mask.len() - i / 8 - 1] >> (i % 8)) & 1;
+    let byte = kinds::byte_from_last(i);
+    if byte < mask.len() {
+        return bits::bit_of(mask[mask.len() - byte - 1], i);
     }
-    (mask[0] >> (i % 8)) & 1
+    bits::bit_of(mask[0], i)
 }
 
 // Whether a bit is kept (1) or cleared (0) at a mask bit.
@@ -41,8 +43,9 @@ pub fn apply_bit_mask(data: &mut [u8], mask: &[u8], kept: Kept, bit_len: BitLeng
     requires { ⌜ «bit_pos» ≤ 8 * 65535 ⌝ }
     ensures { λ _. ⌜ now («data» .exit) ≡ masked kept («bit_len» .0) «bit_pos» (now (mask .entry)) (now («data» .entry)) ⌝ }
 {
+    let end = ByteCount(data.len()).bit_end();
     for i in 0..bit_len.bits() {
-        if bit_pos + i >= data.len() * 8 {
+        if bit_pos + i >= end {
             break;
         }
         let keep = keeps_at(kept, mask, i);

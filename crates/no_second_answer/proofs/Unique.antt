@@ -1,9 +1,11 @@
--- No second answer fits the contract of a public function: what an answer shows decides it.
+-- No second answer fits the contract of a function that users call: what an answer shows decides it. `Learnt` is what a caller learns of the
+-- contract, which the toolchain reads from the function's clauses and proves of them: of the lifetimes, of the arguments, of a result, and of
+-- the parameters at exit. So a contract that leaves something open breaks its theorem here.
 use mathlib.Core.Path.{_≡_, refl, sym, ap, _∙_}
 use mathlib.Core.Bool.{Bool, cond}
 use mathlib.Core.List.{List, _∷_}
 use Prim.Native.Nat.{ℕ}
-use lib.ListN.{getD, drop}
+use lib.ListN.{length, getD, drop}
 use lib.Dec.{eqb}
 use Rattle.kinds.specs.declared.types.DataType.{DataType}
 use Rattle.kinds.specs.declared.types.BitLength.{BitLength}
@@ -17,6 +19,7 @@ use Rattle.kinds.specs.declared.refusals.Reading.the-variants as reading
 use Rattle.kinds.specs.declared.refusals.Writing.{Writing}
 use Rattle.kinds.specs.declared.refusals.Writing.the-variants as writing
 use Rattle.kinds.specs.Answers.{numberIn, numbered, reportOfCheck, reportOfReading, reportOfWriting}
+use Rattle.kinds.specs.Slices.{behind}
 use Rattle.kinds.specs.Outcomes.{Outcome, gives, lacks, refuses, Answer, answer}
 use Rattle.kinds.proofs.Rows.{refusalOf, never-0, never-30, refusal-told}
 use Rattle.coded.specs.declared.variants.MaxLength.{MaxLength}
@@ -27,17 +30,48 @@ use Rattle.coded.specs.declared.variants.DiagCodedTypeVariant.{DiagCodedTypeVar
 use Rattle.coded.specs.declared.coded_type.DiagCodedType.{DiagCodedType}
 use Rattle.coded.specs.declared.coded_type.Built.{Built}
 use Rattle.coded.specs.declared.coded_type.Built.the-variants as built
-use Rattle.coded.specs.Making.{newMinMax, newCodedType, outcomeOfMinMax, outcomeOfCodedType}
-use Rattle.payload.specs.Payload.{Payload}
+use Rattle.coded.specs.Making.{outcomeOfMinMax, outcomeOfCodedType}
+use Rattle.payload.specs.Payload.{Payload, payloadOf}
 use Rattle.record.specs.declared.recorded.Recorded.{Recorded}
 use Rattle.record.specs.declared.recorded.Recorded.the-variants as recorded
-use Rattle.record.specs.Recorded.{codedByRecord, outcomeOfRecorded}
-use Rattle.storing.specs.Storing.{storedRecord}
+use Rattle.record.specs.Recorded.{outcomeOfRecorded}
 use Rattle.table.specs.declared.Fetched.{Fetched}
 use Rattle.table.specs.declared.Fetched.the-variants as fetch
-use Rattle.table.specs.Table.{fetched, outcomeOfFetched}
-use Rattle.calls.specs.Calls.{Description, decoded, encoded, clearedField, runtimeRead, keyName}
-use Rattle.dct.specs.Boundary.{startAnswer, placesFetched}
+use Rattle.table.specs.Table.{outcomeOfFetched}
+use Rattle.parts.specs.Part.{partStart}
+use Rattle.kinds.proofs.refusals.Refusal.number.Reads as refusal-number
+use Rattle.kinds.proofs.refusals.Reading.report.Reads as reading-report
+use Rattle.kinds.proofs.refusals.Writing.report.Reads as writing-report
+use Rattle.kinds.proofs.class_of.Reads as class-of
+use Rattle.coded.proofs.coded_type.DiagCodedType.validate.Reads as validate
+use Rattle.coded.proofs.variants.MinMaxLengthType.new.Reads as new-limits
+use Rattle.coded.proofs.variants.MinMaxLengthType.min_length.Reads as min-length
+use Rattle.coded.proofs.variants.MinMaxLengthType.max_length.Reads as max-length
+use Rattle.coded.proofs.variants.MinMaxLengthType.termination.Reads as termination
+use Rattle.coded.proofs.coded_type.DiagCodedType.new.Reads as new
+use Rattle.coded.proofs.coded_type.DiagCodedType.new_high_low_byte_order.Reads as new-high-low
+use Rattle.coded.proofs.coded_type.DiagCodedType.base_datatype.Reads as base-datatype
+use Rattle.coded.proofs.coded_type.DiagCodedType.type_.Reads as type
+use Rattle.coded.proofs.coded_type.DiagCodedType.bit_len.Reads as bit-len
+use Rattle.coded.proofs.coded_type.DiagCodedType.length_key_place.Reads as length-key-place
+use Rattle.record.proofs.coded_by_record.Reads as coded-by-record
+use Rattle.storing.proofs.record_of.Reads as record-of
+use Rattle.table.proofs.fetch.Reads as fetching
+use Rattle.calls.proofs.decode.Reads as decode
+use Rattle.calls.proofs.decode_by_record.Reads as decode-by-record
+use Rattle.calls.proofs.encode.Reads as encode
+use Rattle.calls.proofs.encode_by_record.Reads as encode-by-record
+use Rattle.calls.proofs.clear.Reads as clear
+use Rattle.calls.proofs.clear_by_record.Reads as clear-by-record
+use Rattle.calls.proofs.decode_with_runtime_byte_length.Reads as runtime-read
+use Rattle.calls.proofs.decode_with_runtime_byte_length_by_record.Reads as runtime-read-by-record
+use Rattle.calls.proofs.length_key_name.Reads as length-key-name
+use Rattle.dct.proofs.dct_class.Reads as dct-class
+use Rattle.dct.proofs.dct_decode.Reads as dct-decode
+use Rattle.dct.proofs.dct_encode.Reads as dct-encode
+use Rattle.dct.proofs.dct_clear.Reads as dct-clear
+use Rattle.dct.proofs.dct_read.Reads as dct-read
+use Rattle.dct.proofs.dct_fetch.Reads as dct-fetch
 
 -- the law: what an answer shows tells the answer, and so two answers that show the same are one
 pub no-second : {A B : Type 0} (shows : A → B) (tells : B → A) {x : B} → ((a : A) → tells (shows a) ≡ a)
@@ -112,84 +146,118 @@ fetched-told : (f : Fetched) → outcomeTells fetch.Found fetch.Refused (outcome
 fetched-told (fetch.Found e) = refl
 fetched-told (fetch.Refused r) = refl
 
--- ---- the public functions, one by one
+-- ---- what users call, one function after the other
 
--- `decode`, `decode_by_record`
-pub decode-one : (d : Description) (store payload : List ℕ) (at pos : ℕ) (output : List ℕ) (a b : Reading × List ℕ)
-    → answer (reportOfReading (a .0)) (a .1) ≡ decoded d store payload at pos output → answer (reportOfReading (b .0)) (b .1) ≡ decoded d store payload at pos output → a ≡ b
-decode-one d store payload at pos output = one-reported reportOfReading readingOf reading-told
+-- a decode: the answer, and the output
+pub decode-one : (κs : _) (args : _) (r r′ : _) (e e′ : _) → decode.Learnt κs args r e → decode.Learnt κs args r′ e′ → _≡_ {A = Reading × List ℕ} (r, e .1 .1 .1 .1 .1 .0 .now) (r′, e′ .1 .1 .1 .1 .1 .0 .now)
+decode-one κs args r r′ e e′ h h′ = one-reported reportOfReading readingOf reading-told (r, e .1 .1 .1 .1 .1 .0 .now) (r′, e′ .1 .1 .1 .1 .1 .0 .now) h h′
 
--- `encode`, `encode_by_record`
-pub encode-one : (d : Description) (store input : List ℕ) (p : Payload) (at pos : ℕ) (a b : Writing × Payload)
-    → answer (reportOfWriting (a .0)) (a .1) ≡ encoded d store input p at pos → answer (reportOfWriting (b .0)) (b .1) ≡ encoded d store input p at pos → a ≡ b
-encode-one d store input p at pos = one-reported reportOfWriting writingOf writing-told
+pub decode-by-record-one : (κs : _) (args : _) (r r′ : _) (e e′ : _) → decode-by-record.Learnt κs args r e → decode-by-record.Learnt κs args r′ e′ → _≡_ {A = Reading × List ℕ} (r, e .1 .1 .1 .1 .1 .0 .now) (r′, e′ .1 .1 .1 .1 .1 .0 .now)
+decode-by-record-one κs args r r′ e e′ h h′ = one-reported reportOfReading readingOf reading-told (r, e .1 .1 .1 .1 .1 .0 .now) (r′, e′ .1 .1 .1 .1 .1 .0 .now) h h′
 
--- `clear`, `clear_by_record`
-pub clear-one : (d : Description) (store : List ℕ) (p : Payload) (at pos : ℕ) (a b : Writing × Payload)
-    → answer (reportOfWriting (a .0)) (a .1) ≡ clearedField d store p at pos → answer (reportOfWriting (b .0)) (b .1) ≡ clearedField d store p at pos → a ≡ b
-clear-one d store p at pos = one-reported reportOfWriting writingOf writing-told
+-- an encode: the answer, the payload and the used length
+pub encode-one : (κs : _) (args : _) (r r′ : _) (e e′ : _) → encode.Learnt κs args r e → encode.Learnt κs args r′ e′ → _≡_ {A = Writing × Payload} (r, payloadOf (e .1 .1 .1 .0 .now) (e .1 .1 .1 .1 .0 .now)) (r′, payloadOf (e′ .1 .1 .1 .0 .now) (e′ .1 .1 .1 .1 .0 .now))
+encode-one κs args r r′ e e′ h h′ = one-reported reportOfWriting writingOf writing-told (r, payloadOf (e .1 .1 .1 .0 .now) (e .1 .1 .1 .1 .0 .now)) (r′, payloadOf (e′ .1 .1 .1 .0 .now) (e′ .1 .1 .1 .1 .0 .now)) h h′
 
--- `decode_with_runtime_byte_length`, by a coded type and by a record: number, report and part; where an empty part lies in memory is not settled
-pub runtime-read-one : (d : Description) (store payload : List ℕ) (at count : ℕ) (a b : ℕ × List ℕ × List ℕ)
-    → answer (a .0 ∷ a .1) (a .2) ≡ runtimeRead d store payload at count → answer (b .0 ∷ b .1) (b .2) ≡ runtimeRead d store payload at count → a ≡ b
-runtime-read-one d store payload at count = one-counted
+pub encode-by-record-one : (κs : _) (args : _) (r r′ : _) (e e′ : _) → encode-by-record.Learnt κs args r e → encode-by-record.Learnt κs args r′ e′ → _≡_ {A = Writing × Payload} (r, payloadOf (e .1 .1 .1 .0 .now) (e .1 .1 .1 .1 .0 .now)) (r′, payloadOf (e′ .1 .1 .1 .0 .now) (e′ .1 .1 .1 .1 .0 .now))
+encode-by-record-one κs args r r′ e e′ h h′ = one-reported reportOfWriting writingOf writing-told (r, payloadOf (e .1 .1 .1 .0 .now) (e .1 .1 .1 .1 .0 .now)) (r′, payloadOf (e′ .1 .1 .1 .0 .now) (e′ .1 .1 .1 .1 .0 .now)) h h′
 
--- `length_key_name`: number and part
-pub length-key-name-one : (d : Description) (store : List ℕ) (a b : ℕ × List ℕ)
-    → answer (numbered (a .0)) (a .1) ≡ keyName d store → answer (numbered (b .0)) (b .1) ≡ keyName d store → a ≡ b
-length-key-name-one d store = one-numbered
+-- a clear: the answer and the payload; the used length is not lent
+pub clear-one : (κs : _) (args : _) (r r′ : _) (e e′ : _) → clear.Learnt κs args r e → clear.Learnt κs args r′ e′ → _≡_ {A = Writing × Payload} (r, payloadOf (e .1 .1 .0 .now) (args .1 .1 .1 .0)) (r′, payloadOf (e′ .1 .1 .0 .now) (args .1 .1 .1 .0))
+clear-one κs args r r′ e e′ h h′ = one-reported reportOfWriting writingOf writing-told (r, payloadOf (e .1 .1 .0 .now) (args .1 .1 .1 .0)) (r′, payloadOf (e′ .1 .1 .0 .now) (args .1 .1 .1 .0)) h h′
 
--- `MinMaxLengthType::new`
-pub new-limits-one : (min : ℕ) (max : MaxLength) (t : Termination) (a b : MinMaxBuilt)
-    → outcomeOfMinMax a ≡ newMinMax min max t → outcomeOfMinMax b ≡ newMinMax min max t → a ≡ b
-new-limits-one min max t = no-second outcomeOfMinMax (outcomeTells minMax.Made minMax.Refused) limits-told
+pub clear-by-record-one : (κs : _) (args : _) (r r′ : _) (e e′ : _) → clear-by-record.Learnt κs args r e → clear-by-record.Learnt κs args r′ e′ → _≡_ {A = Writing × Payload} (r, payloadOf (e .1 .1 .0 .now) (args .1 .1 .1 .0)) (r′, payloadOf (e′ .1 .1 .0 .now) (args .1 .1 .1 .0))
+clear-by-record-one κs args r r′ e e′ h h′ = one-reported reportOfWriting writingOf writing-told (r, payloadOf (e .1 .1 .0 .now) (args .1 .1 .1 .0)) (r′, payloadOf (e′ .1 .1 .0 .now) (args .1 .1 .1 .0)) h h′
 
--- `DiagCodedType::new`, high-low or not
-pub new-one : (t : DataType) (v : DiagCodedTypeVariant) (highLow : Bool) (a b : Built)
-    → outcomeOfCodedType a ≡ newCodedType t v highLow → outcomeOfCodedType b ≡ newCodedType t v highLow → a ≡ b
-new-one t v highLow = no-second outcomeOfCodedType (outcomeTells built.Made built.Refused) made-told
+-- a runtime read: number, report, the bytes of the part, and where it lies
+pub runtime-read-one : (κs : _) (args : _) (r r′ : _) (e e′ : _) → runtime-read.Learnt κs args r e → runtime-read.Learnt κs args r′ e′ → (_≡_ {A = ℕ × List ℕ × List ℕ} (e .1 .1 .1 .1 .1 .0 .now, e .1 .1 .1 .1 .1 .1 .0 .now, r .now) (e′ .1 .1 .1 .1 .1 .0 .now, e′ .1 .1 .1 .1 .1 .1 .0 .now, r′ .now)) × (r .ptr ≡ r′ .ptr)
+runtime-read-one κs args r r′ e e′ h h′ =
+    let same : _≡_ {A = ℕ × List ℕ × List ℕ} (e .1 .1 .1 .1 .1 .0 .now, e .1 .1 .1 .1 .1 .1 .0 .now, r .now) (e′ .1 .1 .1 .1 .1 .0 .now, e′ .1 .1 .1 .1 .1 .1 .0 .now, r′ .now) = one-counted (e .1 .1 .1 .1 .1 .0 .now, e .1 .1 .1 .1 .1 .1 .0 .now, r .now) (e′ .1 .1 .1 .1 .1 .0 .now, e′ .1 .1 .1 .1 .1 .1 .0 .now, r′ .now) (h .0) (h′ .0) in
+    (same, h .1 ∙ ap (λ (q : ℕ × List ℕ × List ℕ). behind (partStart (length (q .2)) (args .1 .1 .1 .0)) (args .1 .1 .0 .ptr)) same ∙ sym (h′ .1))
 
--- `record_of`: the number, and the record
-pub record-of-one : (t : DiagCodedType) (old : List ℕ) (a b : Check × List ℕ)
-    → answer (reportOfCheck (a .0)) (a .1) ≡ storedRecord t old → answer (reportOfCheck (b .0)) (b .1) ≡ storedRecord t old → a ≡ b
-record-of-one t old = one-reported reportOfCheck checkOf check-told
+pub runtime-read-by-record-one : (κs : _) (args : _) (r r′ : _) (e e′ : _) → runtime-read-by-record.Learnt κs args r e → runtime-read-by-record.Learnt κs args r′ e′ → (_≡_ {A = ℕ × List ℕ × List ℕ} (e .1 .1 .1 .1 .1 .0 .now, e .1 .1 .1 .1 .1 .1 .0 .now, r .now) (e′ .1 .1 .1 .1 .1 .0 .now, e′ .1 .1 .1 .1 .1 .1 .0 .now, r′ .now)) × (r .ptr ≡ r′ .ptr)
+runtime-read-by-record-one κs args r r′ e e′ h h′ =
+    let same : _≡_ {A = ℕ × List ℕ × List ℕ} (e .1 .1 .1 .1 .1 .0 .now, e .1 .1 .1 .1 .1 .1 .0 .now, r .now) (e′ .1 .1 .1 .1 .1 .0 .now, e′ .1 .1 .1 .1 .1 .1 .0 .now, r′ .now) = one-counted (e .1 .1 .1 .1 .1 .0 .now, e .1 .1 .1 .1 .1 .1 .0 .now, r .now) (e′ .1 .1 .1 .1 .1 .0 .now, e′ .1 .1 .1 .1 .1 .1 .0 .now, r′ .now) (h .0) (h′ .0) in
+    (same, h .1 ∙ ap (λ (q : ℕ × List ℕ × List ℕ). behind (partStart (length (q .2)) (args .1 .1 .1 .0)) (args .1 .1 .0 .ptr)) same ∙ sym (h′ .1))
 
--- `coded_by_record`
-pub coded-by-record-one : (bytes : List ℕ) (store m n used : ℕ) (a b : Recorded)
-    → outcomeOfRecorded a ≡ codedByRecord bytes store m n used → outcomeOfRecorded b ≡ codedByRecord bytes store m n used → a ≡ b
-coded-by-record-one bytes store m n used = no-second outcomeOfRecorded (outcomeTells recorded.Coded recorded.Refused) recorded-told
+-- a key name: number, the bytes of the name, and where it lies
+pub length-key-name-one : (κs : _) (args : _) (r r′ : _) (e e′ : _) → length-key-name.Learnt κs args r e → length-key-name.Learnt κs args r′ e′ → (_≡_ {A = ℕ × List ℕ} (e .1 .1 .0 .now, r .now) (e′ .1 .1 .0 .now, r′ .now)) × (r .ptr ≡ r′ .ptr)
+length-key-name-one κs args r r′ e e′ h h′ = (one-numbered (e .1 .1 .0 .now, r .now) (e′ .1 .1 .0 .now, r′ .now) (h .0) (h′ .0), h .1 ∙ sym (h′ .1))
 
--- `fetch`
-pub fetch-one : (s : List ℕ) (number : ℕ) (a b : Fetched) → outcomeOfFetched a ≡ fetched s number → outcomeOfFetched b ≡ fetched s number → a ≡ b
-fetch-one s number = no-second outcomeOfFetched (outcomeTells fetch.Found fetch.Refused) fetched-told
+-- what is made
+pub new-limits-one : (κs : _) (args : _) (r r′ : _) (e e′ : _) → new-limits.Learnt κs args r e → new-limits.Learnt κs args r′ e′ → r ≡ r′
+new-limits-one κs args r r′ e e′ h h′ = no-second outcomeOfMinMax (outcomeTells minMax.Made minMax.Refused) limits-told r r′ h h′
 
--- `dct_decode`, `dct_encode`, `dct_clear`, `dct_read`: the result, the report, and what is left
-pub dct-decode-one : (d : Description) (store payload : List ℕ) (at pos : ℕ) (output : List ℕ) (a b : ℕ × List ℕ × List ℕ)
-    → answer (a .0 ∷ a .1) (a .2) ≡ decoded d store payload at pos output → answer (b .0 ∷ b .1) (b .2) ≡ decoded d store payload at pos output → a ≡ b
-dct-decode-one d store payload at pos output = one-counted
+pub new-one : (κs : _) (args : _) (r r′ : _) (e e′ : _) → new.Learnt κs args r e → new.Learnt κs args r′ e′ → r ≡ r′
+new-one κs args r r′ e e′ h h′ = no-second outcomeOfCodedType (outcomeTells built.Made built.Refused) made-told r r′ h h′
 
-pub dct-encode-one : (d : Description) (store input : List ℕ) (p : Payload) (at pos : ℕ) (a b : ℕ × List ℕ × Payload)
-    → answer (a .0 ∷ a .1) (a .2) ≡ encoded d store input p at pos → answer (b .0 ∷ b .1) (b .2) ≡ encoded d store input p at pos → a ≡ b
-dct-encode-one d store input p at pos = one-counted
+pub new-high-low-one : (κs : _) (args : _) (r r′ : _) (e e′ : _) → new-high-low.Learnt κs args r e → new-high-low.Learnt κs args r′ e′ → r ≡ r′
+new-high-low-one κs args r r′ e e′ h h′ = no-second outcomeOfCodedType (outcomeTells built.Made built.Refused) made-told r r′ h h′
 
-pub dct-clear-one : (d : Description) (store : List ℕ) (p : Payload) (at pos : ℕ) (a b : ℕ × List ℕ × Payload)
-    → answer (a .0 ∷ a .1) (a .2) ≡ clearedField d store p at pos → answer (b .0 ∷ b .1) (b .2) ≡ clearedField d store p at pos → a ≡ b
-dct-clear-one d store p at pos = one-counted
+pub coded-by-record-one : (κs : _) (args : _) (r r′ : _) (e e′ : _) → coded-by-record.Learnt κs args r e → coded-by-record.Learnt κs args r′ e′ → r ≡ r′
+coded-by-record-one κs args r r′ e e′ h h′ = no-second outcomeOfRecorded (outcomeTells recorded.Coded recorded.Refused) recorded-told r r′ h h′
 
-pub dct-read-one : (d : Description) (store payload : List ℕ) (at count : ℕ) (a b : ℕ × List ℕ × ℕ)
-    → answer (a .0 ∷ a .1) (a .2) ≡ startAnswer at (runtimeRead d store payload at count) → answer (b .0 ∷ b .1) (b .2) ≡ startAnswer at (runtimeRead d store payload at count) → a ≡ b
-dct-read-one d store payload at count = one-counted
+pub fetch-one : (κs : _) (args : _) (r r′ : _) (e e′ : _) → fetching.Learnt κs args r e → fetching.Learnt κs args r′ e′ → r ≡ r′
+fetch-one κs args r r′ e e′ h h′ = no-second outcomeOfFetched (outcomeTells fetch.Found fetch.Refused) fetched-told r r′ h h′
 
--- `dct_fetch`: the result, and the places
-pub dct-fetch-one : (s : List ℕ) (number : ℕ) (a b : ℕ × List ℕ) → answer (numbered (a .0)) (a .1) ≡ placesFetched s number → answer (numbered (b .0)) (b .1) ≡ placesFetched s number → a ≡ b
-dct-fetch-one s number = one-numbered
+-- a record that is written: the answer and its bytes
+pub record-of-one : (κs : _) (args : _) (r r′ : _) (e e′ : _) → record-of.Learnt κs args r e → record-of.Learnt κs args r′ e′ → _≡_ {A = Check × List ℕ} (r, e .1 .0 .now) (r′, e′ .1 .0 .now)
+record-of-one κs args r r′ e e′ h h′ = one-reported reportOfCheck checkOf check-told (r, e .1 .0 .now) (r′, e′ .1 .0 .now) h h′
 
--- every other one promises `r ≡ x`, the checks among them, or of a length in a struct of its own `r .0 ≡ x`
-pub equation-one : {A : Type 0} (x : A) (a b : A) → a ≡ x → b ≡ x → a ≡ b
-equation-one x = no-second (λ a. a) (λ a. a) (λ a. refl)
+-- the getters
+pub min-length-one : (κs : _) (args : _) (r r′ : _) (e e′ : _) → min-length.Learnt κs args r e → min-length.Learnt κs args r′ e′ → r ≡ r′
+min-length-one κs args r r′ e e′ h h′ = h ∙ sym h′
 
-pub bit-length-equation-one : (x : ℕ) (a b : BitLength) → a .0 ≡ x → b .0 ≡ x → a ≡ b
-bit-length-equation-one x = no-second (λ (a : BitLength). a .0) (λ n. record { 0 = n }) (λ a. refl)
+pub max-length-one : (κs : _) (args : _) (r r′ : _) (e e′ : _) → max-length.Learnt κs args r e → max-length.Learnt κs args r′ e′ → r ≡ r′
+max-length-one κs args r r′ e e′ h h′ = h ∙ sym h′
 
-pub byte-count-equation-one : (x : ℕ) (a b : ByteCount) → a .0 ≡ x → b .0 ≡ x → a ≡ b
-byte-count-equation-one x = no-second (λ (a : ByteCount). a .0) (λ n. record { 0 = n }) (λ a. refl)
+pub termination-one : (κs : _) (args : _) (r r′ : _) (e e′ : _) → termination.Learnt κs args r e → termination.Learnt κs args r′ e′ → r ≡ r′
+termination-one κs args r r′ e e′ h h′ = h ∙ sym h′
+
+pub base-datatype-one : (κs : _) (args : _) (r r′ : _) (e e′ : _) → base-datatype.Learnt κs args r e → base-datatype.Learnt κs args r′ e′ → r ≡ r′
+base-datatype-one κs args r r′ e e′ h h′ = h ∙ sym h′
+
+pub type-one : (κs : _) (args : _) (r r′ : _) (e e′ : _) → type.Learnt κs args r e → type.Learnt κs args r′ e′ → r ≡ r′
+type-one κs args r r′ e e′ h h′ = h ∙ sym h′
+
+pub bit-len-one : (κs : _) (args : _) (r r′ : _) (e e′ : _) → bit-len.Learnt κs args r e → bit-len.Learnt κs args r′ e′ → r ≡ r′
+bit-len-one κs args r r′ e e′ h h′ = h ∙ sym h′
+
+pub length-key-place-one : (κs : _) (args : _) (r r′ : _) (e e′ : _) → length-key-place.Learnt κs args r e → length-key-place.Learnt κs args r′ e′ → r ≡ r′
+length-key-place-one κs args r r′ e e′ h h′ = h ∙ sym h′
+
+-- what C calls: the result, the report, and what is left
+pub dct-decode-one : (κs : _) (args : _) (r r′ : _) (e e′ : _) → dct-decode.Learnt κs args r e → dct-decode.Learnt κs args r′ e′ → _≡_ {A = ℕ × List ℕ × List ℕ} (r, e .1 .1 .1 .1 .1 .1 .0 .now, e .1 .1 .1 .1 .1 .0 .now) (r′, e′ .1 .1 .1 .1 .1 .1 .0 .now, e′ .1 .1 .1 .1 .1 .0 .now)
+dct-decode-one κs args r r′ e e′ h h′ = one-counted (r, e .1 .1 .1 .1 .1 .1 .0 .now, e .1 .1 .1 .1 .1 .0 .now) (r′, e′ .1 .1 .1 .1 .1 .1 .0 .now, e′ .1 .1 .1 .1 .1 .0 .now) h h′
+
+pub dct-encode-one : (κs : _) (args : _) (r r′ : _) (e e′ : _) → dct-encode.Learnt κs args r e → dct-encode.Learnt κs args r′ e′ → _≡_ {A = ℕ × List ℕ × Payload} (r, e .1 .1 .1 .1 .1 .1 .1 .0 .now, payloadOf (e .1 .1 .1 .0 .now) (e .1 .1 .1 .1 .0 .now)) (r′, e′ .1 .1 .1 .1 .1 .1 .1 .0 .now, payloadOf (e′ .1 .1 .1 .0 .now) (e′ .1 .1 .1 .1 .0 .now))
+dct-encode-one κs args r r′ e e′ h h′ = one-counted (r, e .1 .1 .1 .1 .1 .1 .1 .0 .now, payloadOf (e .1 .1 .1 .0 .now) (e .1 .1 .1 .1 .0 .now)) (r′, e′ .1 .1 .1 .1 .1 .1 .1 .0 .now, payloadOf (e′ .1 .1 .1 .0 .now) (e′ .1 .1 .1 .1 .0 .now)) h h′
+
+pub dct-clear-one : (κs : _) (args : _) (r r′ : _) (e e′ : _) → dct-clear.Learnt κs args r e → dct-clear.Learnt κs args r′ e′ → _≡_ {A = ℕ × List ℕ × Payload} (r, e .1 .1 .1 .1 .1 .1 .0 .now, payloadOf (e .1 .1 .0 .now) (args .1 .1 .1 .0)) (r′, e′ .1 .1 .1 .1 .1 .1 .0 .now, payloadOf (e′ .1 .1 .0 .now) (args .1 .1 .1 .0))
+dct-clear-one κs args r r′ e e′ h h′ = one-counted (r, e .1 .1 .1 .1 .1 .1 .0 .now, payloadOf (e .1 .1 .0 .now) (args .1 .1 .1 .0)) (r′, e′ .1 .1 .1 .1 .1 .1 .0 .now, payloadOf (e′ .1 .1 .0 .now) (args .1 .1 .1 .0)) h h′
+
+pub dct-read-one : (κs : _) (args : _) (r r′ : _) (e e′ : _) → dct-read.Learnt κs args r e → dct-read.Learnt κs args r′ e′ → _≡_ {A = ℕ × List ℕ × ℕ} (r, e .1 .1 .1 .1 .1 .1 .0 .now, e .1 .1 .1 .1 .1 .0 .now) (r′, e′ .1 .1 .1 .1 .1 .1 .0 .now, e′ .1 .1 .1 .1 .1 .0 .now)
+dct-read-one κs args r r′ e e′ h h′ = one-counted (r, e .1 .1 .1 .1 .1 .1 .0 .now, e .1 .1 .1 .1 .1 .0 .now) (r′, e′ .1 .1 .1 .1 .1 .1 .0 .now, e′ .1 .1 .1 .1 .1 .0 .now) h h′
+
+pub dct-fetch-one : (κs : _) (args : _) (r r′ : _) (e e′ : _) → dct-fetch.Learnt κs args r e → dct-fetch.Learnt κs args r′ e′ → _≡_ {A = ℕ × List ℕ} (r, e .1 .1 .0 .now) (r′, e′ .1 .1 .0 .now)
+dct-fetch-one κs args r r′ e e′ h h′ = one-numbered (r, e .1 .1 .0 .now) (r′, e′ .1 .1 .0 .now) h h′
+
+-- the class of a number
+pub dct-class-one : (κs : _) (args : _) (r r′ : _) (e e′ : _) → dct-class.Learnt κs args r e → dct-class.Learnt κs args r′ e′ → r ≡ r′
+dct-class-one κs args r r′ e e′ h h′ = h ∙ sym h′
+
+-- what an answer is told as: its number, and the report
+pub refusal-number-one : (κs : _) (args : _) (r r′ : _) (e e′ : _) → refusal-number.Learnt κs args r e → refusal-number.Learnt κs args r′ e′ → r ≡ r′
+refusal-number-one κs args r r′ e e′ h h′ = h ∙ sym h′
+
+pub reading-report-one : (κs : _) (args : _) (r r′ : _) (e e′ : _) → reading-report.Learnt κs args r e → reading-report.Learnt κs args r′ e′ → _≡_ {A = List ℕ} (r ∷ e .1 .0 .now) (r′ ∷ e′ .1 .0 .now)
+reading-report-one κs args r r′ e e′ h h′ = h ∙ sym h′
+
+pub writing-report-one : (κs : _) (args : _) (r r′ : _) (e e′ : _) → writing-report.Learnt κs args r e → writing-report.Learnt κs args r′ e′ → _≡_ {A = List ℕ} (r ∷ e .1 .0 .now) (r′ ∷ e′ .1 .0 .now)
+writing-report-one κs args r r′ e e′ h h′ = h ∙ sym h′
+
+pub validate-one : (κs : _) (args : _) (r r′ : _) (e e′ : _) → validate.Learnt κs args r e → validate.Learnt κs args r′ e′ → r ≡ r′
+validate-one κs args r r′ e e′ h h′ = h ∙ sym h′
+
+pub class-of-one : (κs : _) (args : _) (r r′ : _) (e e′ : _) → class-of.Learnt κs args r e → class-of.Learnt κs args r′ e′ → r ≡ r′
+class-of-one κs args r r′ e e′ h h′ = h ∙ sym h′

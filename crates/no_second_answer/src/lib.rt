@@ -1,1 +1,1 @@
-// Theorems over every contract. There is no code.
+// Theorems over the contracts of the functions that users call. There is no code.

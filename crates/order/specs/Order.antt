@@ -1,4 +1,4 @@
--- Document 01, 'Bits and byte order': the ordered form of a run of bytes.
+-- RULES 3.5: the ordered form of a run of bytes.
 use Prim.Native.Nat.{ℕ}
 use mathlib.Core.List.{List, [], _∷_, reverse}
 use Rattle.kinds.specs.declared.types.ByteOrder.{ByteOrder}

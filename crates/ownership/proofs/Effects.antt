@@ -1,4 +1,4 @@
--- Document 01, 'Encode and clear': what a write and a clear make of a payload that reaches past the cut-out, and of each bit of it. The laws
+-- RULES 7 and 8: what a write and a clear make of a payload that reaches past the cut-out, and of each bit of it. The laws
 -- speak of these; demand 3's statement does not need them.
 use Prim.Native.Nat.{ℕ, max}
 use mathlib.Core.Bool.{cond}

@@ -1,4 +1,4 @@
--- Document 01, 'Encode and clear': the bits of a payload that a field owns, by their place in it.
+-- RULES 8.1: the bits of a payload that a field owns, by their place in it.
 use Prim.Native.Nat.{ℕ, _-_}
 use mathlib.Core.Bool.{Bool, cond}
 use mathlib.Core.List.{List}

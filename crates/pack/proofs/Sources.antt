@@ -32,23 +32,23 @@ Alike s s′ = (s .size ≡ s′ .size) × (s .mask ≡ s′ .mask) × ((i : ℕ
 
 module _ (p : Packing) (xs : List ℕ) (i : ℕ) where
   -- the data and the tail
-  pub framed-low : i < 8 * (length xs + p .«tail_len») → framedBit p xs i ≡ bitAt (xs ++ replicate (p .«tail_len») (p .tail)) i
+  pub framed-low : i < 8 * (length xs + p .«tail_len» .0) → framedBit p xs i ≡ bitAt (xs ++ replicate (p .«tail_len» .0) (p .tail)) i
   unfolding framedBit
   framed-low h =
-      let len = length-replicate (p .«tail_len») (p .tail) in
-      let tail = replicate (p .«tail_len») (p .tail) in
+      let len = length-replicate (p .«tail_len» .0) (p .tail) in
+      let tail = replicate (p .«tail_len» .0) (p .tail) in
       ⊎-elim
-      (λ (l : i < 8 * p .«tail_len»). rw (lt-ltb i (8 * p .«tail_len») l) (sym (bitAt-append-low xs tail i (omega arith) ∙ bitAt-replicate (p .«tail_len») (p .tail) i l)))
-      (λ (l : 8 * p .«tail_len» ≤ i).
-      rw (le-ltb i (8 * p .«tail_len») l, lt-ltb (i - 8 * p .«tail_len») (8 * length xs) (omega arith)) (sym (bitAt-append-high xs tail i (omega arith) ∙ rw len)))
-      (below i (8 * p .«tail_len»))
+      (λ (l : i < 8 * p .«tail_len» .0). rw (lt-ltb i (8 * p .«tail_len» .0) l) (sym (bitAt-append-low xs tail i (omega arith) ∙ bitAt-replicate (p .«tail_len» .0) (p .tail) i l)))
+      (λ (l : 8 * p .«tail_len» .0 ≤ i).
+      rw (le-ltb i (8 * p .«tail_len» .0) l, lt-ltb (i - 8 * p .«tail_len» .0) (8 * length xs) (omega arith)) (sym (bitAt-append-high xs tail i (omega arith) ∙ rw len)))
+      (below i (8 * p .«tail_len» .0))
 
   -- the head, of which k bits are below
-  pub framed-high : (k : ℕ) → i ≡ 8 * (length xs + p .«tail_len») + k → framedBit p xs i ≡ cond (ltb k 64) (bit (p .head) k) 0
+  pub framed-high : (k : ℕ) → i ≡ 8 * (length xs + p .«tail_len» .0) + k → framedBit p xs i ≡ cond (ltb k 64) (bit (p .head) k) 0
   unfolding framedBit
   framed-high k e =
-      let above : i - 8 * p .«tail_len» - 8 * length xs ≡ k = omega arith in
-      rw (le-ltb i (8 * p .«tail_len») (omega arith), le-ltb (i - 8 * p .«tail_len») (8 * length xs) (omega arith), above)
+      let above : i - 8 * p .«tail_len» .0 - 8 * length xs ≡ k = omega arith in
+      rw (le-ltb i (8 * p .«tail_len» .0) (omega arith), le-ltb (i - 8 * p .«tail_len» .0) (8 * length xs) (omega arith), above)
 
 -- ---- whole bytes
 
@@ -56,7 +56,7 @@ module _ (p : Packing) (xs : List ℕ) (i : ℕ) where
 none-above : (i : ℕ) → (ltb i 8 && leb 8 i) ≡ false
 none-above i = ⊎-elim (λ (l : i < 8). rw (lt-ltb i 8 l, lt-leb 8 i l)) (λ (l : 8 ≤ i). rw (le-ltb i 8 l)) (below i 8)
 
-pub packed-whole : (p : Packing) (xs : List ℕ) (i : ℕ) → p .«last_bits» ≡ 8 → packedBit p xs i ≡ framedBit p xs i
+pub packed-whole : (p : Packing) (xs : List ℕ) (i : ℕ) → p .«last_bits» .0 ≡ 8 → packedBit p xs i ≡ framedBit p xs i
 unfolding packedBit
 packed-whole p xs i e = rw (e, none-above i)
 
@@ -122,7 +122,7 @@ headless true k = bit-of-zero k
 headless false k = refl
 
 module _ (len : ℕ) (input : List ℕ) (i : ℕ) (h : i < len) where
-  framed-aligned : (byteType : Bool) → framedBit (aligning byteType len (length input)) (take (aligning byteType len (length input) .«data_len») input) i
+  framed-aligned : (byteType : Bool) → framedBit (aligning byteType len (length input)) (take (aligning byteType len (length input) .«data_len» .0) input) i
       ≡ bitAt (cond byteType (firstBytes (bytesFor len) input) (lastBytes (bytesFor len) input)) i
   framed-aligned true =
       rw (take-min (bytesFor len) input)
@@ -135,13 +135,13 @@ module _ (len : ℕ) (input : List ℕ) (i : ℕ) (h : i < len) where
       (λ (l : 8 * length input ≤ i). framed-high p input i k (omega arith) ∙ headless (ltb k 64) k ∙ sym (bitAt-out input i (omega arith)))
       (below i (8 * length input)))
 
-  packed-aligned : (t : DataType) → packedBit (aligning (isByteType t) len (length input)) (take (aligning (isByteType t) len (length input) .«data_len») input) i
+  packed-aligned : (t : DataType) → packedBit (aligning (isByteType t) len (length input)) (take (aligning (isByteType t) len (length input) .«data_len» .0) input) i
       ≡ standardBits t len input i
   unfolding packedBit standardBits
   packed-aligned t = ap₂ (λ (d : Bool) (x : ℕ). cond d 0 x) (dropped (len % 8) i) (framed-aligned (isByteType t))
 
 pub standard-alike : (t : DataType) (len : ℕ) (mask : Mask) (input : List ℕ)
-    → Alike (packedSource (packing mask (isByteType t) len (length input)) mask (take (packing mask (isByteType t) len (length input) .«data_len») input))
+    → Alike (packedSource (packing mask (isByteType t) len (length input)) mask (take (packing mask (isByteType t) len (length input) .«data_len» .0) input))
     (standardSource t len mask input)
 standard-alike t len noMask input = (refl, refl, λ i l. packed-aligned len input i l t)
 standard-alike t len (plainMask mask) input = (refl, refl, λ i l. ap (λ (x : ℕ). min x (maskBit mask i)) (packed-aligned len input i l t))
@@ -150,13 +150,13 @@ standard-alike t len (condensedMask mask) input = (refl, refl, λ i l. ap (λ (x
 -- ---- a field's packing
 
 -- no more data than there is, and no more zeros behind them than the field has bytes
-aligned-within : (byteType : Bool) (len n : ℕ) → (aligning byteType len n .«data_len» ≤ n) × (aligning byteType len n .«tail_len» ≤ bytesFor len)
+aligned-within : (byteType : Bool) (len n : ℕ) → (aligning byteType len n .«data_len» .0 ≤ n) × (aligning byteType len n .«tail_len» .0 ≤ bytesFor len)
 aligned-within true len n = (omega arith, omega arith)
 aligned-within false len n = (omega arith, omega arith)
 
 -- and the size is the one under the mask
 pub packed-within : (p : Packing) (mask : Mask) (byteType : Bool) (len n : ℕ) → p ≡ packing mask byteType len n
-    → (p .«data_len» ≤ n) × (p .«tail_len» ≤ bytesFor len) × (p .«bit_len» .0 ≡ sizeUnder mask (p .«bit_len» .0))
+    → (p .«data_len» .0 ≤ n) × (p .«tail_len» .0 ≤ bytesFor len) × (p .«bit_len» .0 ≡ sizeUnder mask (p .«bit_len» .0))
 packed-within p noMask byteType len n e = let w = aligned-within byteType len n in rw e (w .0, w .1, refl)
 packed-within p (plainMask mask) byteType len n e = let w = aligned-within byteType len n in rw e (w .0, w .1, refl)
 packed-within p (condensedMask mask) byteType len n e = rw e (omega arith, omega arith, refl)

@@ -1,4 +1,4 @@
--- Document 01, 'Encode and clear': the input becomes a source.
+-- RULES 7.1 to 7.7: the input becomes a source.
 use Prim.Native.Nat.{ℕ, _-_, _*_, _%_, min}
 use mathlib.Core.Bool.{cond, not, _&&_}
 use mathlib.Core.List.{List, _++_}

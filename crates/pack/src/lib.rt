@@ -16,26 +16,27 @@ use masks::MaskUse;
 pub struct Packing {
     pub bit_len: BitLength,
     pub head: usize,
-    pub data_len: usize,
+    pub data_len: ByteCount,
     pub tail: u8,
-    pub tail_len: usize,
-    pub last_bits: usize,
+    pub tail_len: ByteCount,
+    pub last_bits: BitLength,
 }
 
 // Bit i of the head, the data and the tail.
 fn framed_bit(packing: Packing, data: &[u8], i: usize) -> u8
     requires { ⌜ length (now «data») ≤ 65535 ⌝ }
-    requires { ⌜ packing .«tail_len» < 2 ^ 32 ⌝ }
+    requires { ⌜ packing .«tail_len» .0 < 2 ^ 32 ⌝ }
     ensures { λ r. ⌜ r ≡ framedBit packing (now («data» .entry)) i ⌝ }
 {
-    let after = 8 * packing.tail_len;
+    let after = packing.tail_len.bit_end();
     if i < after {
-        return (packing.tail >> (i % 8)) & 1;
+        return bits::bit_of(packing.tail, i);
     }
-    if i - after < 8 * data.len() {
+    let end = ByteCount(data.len()).bit_end();
+    if i - after < end {
         return bits::bit_at(data, i - after);
     }
-    let above = i - after - 8 * data.len();
+    let above = i - after - end;
     if above < 64 {
         return ((packing.head >> above) & 1) as u8;
     }
@@ -45,11 +46,11 @@ fn framed_bit(packing: Packing, data: &[u8], i: usize) -> u8
 // Bit i of the packed data.
 fn packed_bit(packing: Packing, data: &[u8], i: usize) -> u8
     requires { ⌜ length (now «data») ≤ 65535 ⌝ }
-    requires { ⌜ packing .«tail_len» < 2 ^ 32 ⌝ }
+    requires { ⌜ packing .«tail_len» .0 < 2 ^ 32 ⌝ }
     ensures { λ r. ⌜ r ≡ packedBit packing (now («data» .entry)) i ⌝ }
 {
     if i < 8 {
-        if packing.last_bits <= i {
+        if packing.last_bits.bits() <= i {
             return 0;
         }
     }
@@ -59,7 +60,7 @@ fn packed_bit(packing: Packing, data: &[u8], i: usize) -> u8
 // Bit i of the packed data, and under a plain mask that bit or zero.
 fn source_bit(packing: Packing, data: &[u8], masked: bool, mask: &[u8], i: usize) -> u8
     requires { ⌜ length (now «data») ≤ 65535 ⌝ }
-    requires { ⌜ packing .«tail_len» < 2 ^ 32 ⌝ }
+    requires { ⌜ packing .«tail_len» .0 < 2 ^ 32 ⌝ }
     ensures { λ r. ⌜ r ≡ packedBitsUnder (plainIf masked (now (mask .entry))) packing (now («data» .entry)) i ⌝ }
 {
     let bit_value = packed_bit(packing, data, i);
@@ -79,7 +80,7 @@ pub fn inject_bits(
     dst_data: &mut [u8],
 )
     requires { ⌜ length (now «data») ≤ 65535 ⌝ }
-    requires { ⌜ packing .«tail_len» < 2 ^ 32 ⌝ }
+    requires { ⌜ packing .«tail_len» .0 < 2 ^ 32 ⌝ }
     requires { ⌜ length (now «dst_data») ≤ 65535 ⌝ }
     requires { ⌜ «bit_pos» + packing .«bit_len» .0 ≤ 8 * length (now «dst_data») ⌝ }
     ensures { λ _. ⌜ now («dst_data» .exit) ≡ injected (packing .«bit_len» .0) «bit_pos» (packedBitsUnder (plainIf masked (now (mask .entry))) packing (now («data» .entry))) (now («dst_data» .entry)) ⌝ }
@@ -92,21 +93,21 @@ pub fn inject_bits(
 }
 
 // How many bits of the last byte are kept of so many bits: no more than fill it.
-fn bits_of_last_byte(bit_len: BitLength) -> usize
-    ensures { λ r. ⌜ r ≡ cond (eqb («bit_len» .0 % 8) 0) 8 («bit_len» .0 % 8) ⌝ }
+fn bits_of_last_byte(bit_len: BitLength) -> BitLength
+    ensures { λ r. ⌜ r .0 ≡ cond (eqb («bit_len» .0 % 8) 0) 8 («bit_len» .0 % 8) ⌝ }
 {
-    let remainder = bit_len.bits() % 8;
-    if remainder == 0 {
-        return 8;
+    let remainder = bit_len.remainder();
+    if remainder.bits() == 0 {
+        return BitLength(8);
     }
     remainder
 }
 
 // So many bytes of data for `bit_len` bits: the last ones for numeric types, and the first for byte types.
-fn align(bit_len: BitLength, data_len: usize, byte_type: bool) -> Packing
-    ensures { λ r. ⌜ r ≡ aligning «byte_type» («bit_len» .0) «data_len» ⌝ }
+fn align(bit_len: BitLength, data_len: ByteCount, byte_type: bool) -> Packing
+    ensures { λ r. ⌜ r ≡ aligning «byte_type» («bit_len» .0) («data_len» .0) ⌝ }
 {
-    let byte_count = bit_len.byte_count().bytes();
+    let byte_count = bit_len.byte_count();
     let last_bits = bits_of_last_byte(bit_len);
     if !byte_type {
         return Packing {
@@ -114,17 +115,17 @@ fn align(bit_len: BitLength, data_len: usize, byte_type: bool) -> Packing
             head: 0,
             data_len,
             tail: 0,
-            tail_len: 0,
+            tail_len: ByteCount(0),
             last_bits,
         };
     }
-    if data_len < byte_count {
+    if data_len.bytes() < byte_count.bytes() {
         return Packing {
             bit_len,
             head: 0,
             data_len,
             tail: 0,
-            tail_len: byte_count - data_len,
+            tail_len: ByteCount(byte_count.bytes() - data_len.bytes()),
             last_bits,
         };
     }
@@ -133,7 +134,7 @@ fn align(bit_len: BitLength, data_len: usize, byte_type: bool) -> Packing
         head: 0,
         data_len: byte_count,
         tail: 0,
-        tail_len: 0,
+        tail_len: ByteCount(0),
         last_bits,
     }
 }
@@ -142,12 +143,12 @@ fn align(bit_len: BitLength, data_len: usize, byte_type: bool) -> Packing
 pub fn frame(
     byte_count: ByteCount,
     head: usize,
-    data_len: usize,
+    data_len: ByteCount,
     tail: u8,
-    tail_len: usize,
+    tail_len: ByteCount,
 ) -> Packing
     requires { ⌜ «byte_count» .0 < 2 ^ 29 ⌝ }
-    ensures { λ r. ⌜ r ≡ framing (8 * «byte_count» .0) head «data_len» tail «tail_len» ⌝ }
+    ensures { λ r. ⌜ r ≡ framing (8 * «byte_count» .0) head («data_len» .0) tail («tail_len» .0) ⌝ }
 {
     let bit_len = byte_count.bit_length();
     Packing {
@@ -156,7 +157,7 @@ pub fn frame(
         data_len,
         tail,
         tail_len,
-        last_bits: 8,
+        last_bits: BitLength(8),
     }
 }
 
@@ -165,15 +166,15 @@ pub fn pack_data(
     bit_len: BitLength,
     mask_use: MaskUse,
     mask: &[u8],
-    data_len: usize,
+    data_len: ByteCount,
     byte_type: bool,
 ) -> Packing
     requires { ⌜ length (now mask) ≤ 65535 ⌝ }
-    ensures { λ r. ⌜ r ≡ packing (maskOf «mask_use» (now (mask .entry))) «byte_type» («bit_len» .0) «data_len» ⌝ }
+    ensures { λ r. ⌜ r ≡ packing (maskOf «mask_use» (now (mask .entry))) «byte_type» («bit_len» .0) («data_len» .0) ⌝ }
 {
     match mask_use {
         MaskUse::Absent => align(bit_len, data_len, byte_type),
         MaskUse::Plain => align(bit_len, data_len, byte_type),
-        MaskUse::Condensed => frame(ByteCount(mask.len()), 0, data_len, 0, 0),
+        MaskUse::Condensed => frame(ByteCount(mask.len()), 0, data_len, 0, ByteCount(0)),
     }
 }

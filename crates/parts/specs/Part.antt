@@ -1,6 +1,6 @@
--- Document 01, 'Decode': the part of a payload that a read with a byte count given at run time hands back.
+-- RULES 6: the part of a payload that a read with a byte count given at run time hands back.
 use Prim.Native.Nat.{ℕ, _*_}
-use mathlib.Core.Bool.{not, _&&_}
+use mathlib.Core.Bool.{cond, not, _&&_}
 use mathlib.Core.List.{List, []}
 use lib.ListN.{length}
 use lib.Dec.{eqb, ltb}
@@ -17,3 +17,7 @@ runtimePart payload at count =
 -- a part that is read and handed back; a refusal hands back the empty part
 abbrev pub partAnswer : Outcome (List ℕ) → Answer (List ℕ)
 partAnswer = concluded [] (λ part. answer (read (8 * length part) (length part)) part)
+
+-- where a part of so many bytes starts, and 0 where it is empty
+abbrev pub partStart : ℕ → ℕ → ℕ
+partStart size at = cond (eqb size 0) 0 at

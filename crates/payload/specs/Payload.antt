@@ -1,4 +1,4 @@
--- Document 01, 'Domain': a payload to be written is a slice with a used length.
+-- RULES 1.2: a payload to be written is a slice with a used length.
 use Prim.Native.Nat.{ℕ}
 use mathlib.Core.List.{List}
 use Rattle.kinds.specs.Answers.{wrote}

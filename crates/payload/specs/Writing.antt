@@ -1,4 +1,4 @@
--- Document 01, 'Encode and clear': the cut-out in the payload, growth, and what a write or a clear makes of it.
+-- RULES 7.8 to 7.10, 8.2: the cut-out in the payload, growth, and what a write or a clear makes of it.
 use Prim.Native.Nat.{ℕ, _+_, _-_, max}
 use mathlib.Core.List.{List, [], _∷_, _++_}
 use lib.ListN.{length, take, drop, replicate}

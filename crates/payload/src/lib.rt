@@ -8,9 +8,8 @@ ghost use Rattle.pack.specs.CodePacking.{packedSource};
 ghost use Rattle.kinds.specs.Answers.{reportOfWriting};
 ghost use Rattle.kinds.specs.Outcomes.{answer};
 ghost use Rattle.payload.specs.Payload.{payloadOf, writeAnswer};
-ghost use Rattle.payload.specs.Writing.{grown, cutBytes, cutEnd, writing, clearing};
+ghost use Rattle.payload.specs.Writing.{grown, cutEnd, writing, clearing};
 use kinds::BitLength;
-use kinds::ByteCount;
 use kinds::ByteOrder;
 use kinds::Refusal;
 use kinds::Writing;
@@ -37,20 +36,12 @@ fn larger(a: usize, b: usize) -> usize
     a
 }
 
-// The bytes of a cut-out for so many bits at a bit position.
-fn cut_bytes(bit_pos: usize, bit_len: BitLength) -> ByteCount
-    requires { ⌜ «bit_pos» ≤ 7 ⌝ }
-    ensures { λ r. ⌜ r .0 ≡ cutBytes «bit_pos» («bit_len» .0) ⌝ }
-{
-    ByteCount((bit_pos + bit_len.bits() + 7) / 8)
-}
-
-// Where it ends, from a byte position on.
+// Where the cut-out for so many bits at a bit position ends, from a byte position on.
 fn cut_end(byte_pos: usize, bit_pos: usize, bit_len: BitLength) -> usize
     requires { ⌜ «bit_pos» ≤ 7 ⌝ }
     ensures { λ r. ⌜ r ≡ cutEnd «byte_pos» «bit_pos» («bit_len» .0) ⌝ }
 {
-    kinds::saturating_add(byte_pos, cut_bytes(bit_pos, bit_len).bytes())
+    kinds::saturating_add(byte_pos, bit_len.byte_count_from(bit_pos).bytes())
 }
 
 // Writes a source at a byte position and a bit position, and grows the payload to hold it: 26 and 40, or all of it.
@@ -66,7 +57,7 @@ pub fn write_source(
     bit_pos: usize,
 ) -> Writing
     requires { ⌜ length (now «data») ≤ 65535 ⌝ }
-    requires { ⌜ packing .«tail_len» < 2 ^ 32 ⌝ }
+    requires { ⌜ packing .«tail_len» .0 < 2 ^ 32 ⌝ }
     requires { ⌜ length (now «uds_payload») ≤ 65535 ⌝ }
     requires { ⌜ now used ≤ length (now «uds_payload») ⌝ }
     requires { ⌜ packing .«bit_len» .0 ≡ sizeUnder (maskOf «mask_use» (now mask)) (packing .«bit_len» .0) ⌝ }

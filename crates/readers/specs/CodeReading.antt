@@ -1,4 +1,4 @@
--- How the code goes from a place to what is read there; no part of document 01.
+-- How the code goes from a place to what is read there; no part of RULES.
 use Prim.Native.Nat.{ℕ}
 use mathlib.Core.Bool.{cond}
 use mathlib.Core.List.{List, []}

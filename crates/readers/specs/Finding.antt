@@ -1,4 +1,4 @@
--- Document 01, 'Decode': what each variant finds in the payload, after its refusals in the order of 'Order', and a field's whole answer.
+-- RULES 5: what each variant finds in the payload, after its refusals in the order of RULES 11, and a field's whole answer.
 use Prim.Native.Nat.{ℕ, _-_, _*_}
 use mathlib.Core.Bool.{_&&_}
 use mathlib.Core.List.{List}

@@ -1,4 +1,4 @@
--- Document 01, 'Stored table': the numbers of a record, big-endian.
+-- RULES 9.1: the numbers of a record, big-endian.
 use Prim.Native.Nat.{ℕ, _+_, _*_, _/_, _%_}
 use mathlib.Core.List.{List}
 use lib.ListN.{getD}
@@ -38,5 +38,5 @@ numbersOf bytes =
       termination = getD bytes 3 0;
       length = be32 bytes 4;
       most = be32 bytes 8;
-      place = record { at = be16 bytes 12; len = be16 bytes 14 };
+      place = record { at = be16 bytes 12; len = record { 0 = be16 bytes 14 } };
     }

@@ -1,4 +1,4 @@
--- Document 01, 'Stored table': the coded type that the numbers of a record say, if they say one. What a variant lacks, or an unset
+-- RULES 9.2, 9.3: the coded type that the numbers of a record say, if they say one. What a variant lacks, or an unset
 -- flag says is absent, is 0, other flag bits too.
 use Prim.Native.Nat.{ℕ}
 use mathlib.Core.Bool.{Bool, cond, not, _||_, _&&_}
@@ -53,7 +53,7 @@ hasMask n = n .flags .mask || n .flags .condensed
 
 -- place or length of mask or key name
 abbrev pub hasPlace : Numbers → Bool
-hasPlace n = not (eqb (n .place .at) 0) || not (eqb (n .place .len) 0)
+hasPlace n = not (eqb (n .place .at) 0) || not (eqb (n .place .len .0) 0)
 
 -- a variant, unless something stands where it has nothing
 abbrev pub lacking : Bool → DiagCodedTypeVariant → OptionalVariant

@@ -1,4 +1,4 @@
--- Document 01, 'Order', of a call that takes a record: 43, 44, and 42 of the record itself.
+-- RULES 11.2, of a call that takes a record: 43, 44, and 42 of the record itself.
 use Prim.Native.Nat.{ℕ}
 use mathlib.Core.List.{List}
 use lib.ListN.{length}

@@ -1,9 +1,11 @@
 // The numbers of a record, big-endian.
 ghost use mathlib.Core.Path.{_≡_};
-ghost use Prim.Native.Nat.{_+_, _≤_, _<_};
+ghost use Prim.Native.Nat.{_+_, _/_, _%_, _≤_, _<_};
 ghost use lib.ListN.{length};
+ghost use lib.Dec.{eqb};
 ghost use Rattle.record.specs.Numbers.{be16, be32, flagsOf, recordSize, numbersOf};
 use coded::Place;
+use kinds::ByteCount;
 
 // The bytes of a record.
 pub const RECORD_SIZE: usize = 16;
@@ -45,14 +47,22 @@ fn read32(bytes: &[u8], at: usize) -> u32
     65536 * high + low
 }
 
+// Whether a byte has the flag that counts so much.
+fn has_flag(byte: u8, weight: u8) -> bool
+    requires { ⌜ 0 < weight ⌝ }
+    ensures { λ r. ⌜ r ≡ eqb (byte / weight % 2) 1 ⌝ }
+{
+    byte / weight % 2 == 1
+}
+
 fn flags_of(byte: u8) -> Flags
     ensures { λ r. ⌜ r ≡ flagsOf byte ⌝ }
 {
     Flags {
         high_low: byte % 2 == 1,
-        mask: byte / 2 % 2 == 1,
-        condensed: byte / 4 % 2 == 1,
-        max: byte / 8 % 2 == 1,
+        mask: has_flag(byte, 2),
+        condensed: has_flag(byte, 4),
+        max: has_flag(byte, 8),
         others: byte / 16,
     }
 }
@@ -75,7 +85,7 @@ pub fn numbers_of(record: &[u8]) -> Numbers
         most,
         place: Place {
             at: at as usize,
-            len: len as usize,
+            len: ByteCount(len as usize),
         },
     }
 }

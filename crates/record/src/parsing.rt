@@ -91,7 +91,7 @@ fn has_place(numbers: Numbers) -> bool
     if numbers.place.at != 0 {
         return true;
     }
-    numbers.place.len != 0
+    numbers.place.len.bytes() != 0
 }
 
 fn leading(numbers: Numbers) -> OptionalVariant

@@ -66,10 +66,10 @@ module _ (m : MinMaxLengthType) (unicode : Bool) (payload : List ℕ) (at : ℕ)
   end-le = end-by-le (m .termination) unicode payload at (m .«min_length») (maxEnd (m .«max_length») at (length payload)) (maxEnd-le (m .«max_length») at (length payload))
 
   -- what is found where the data bytes end at p, which a scan for Zero may not take past the payload
-  abbrev pub foundBy : ℕ → Bool → Outcome Span
-  foundBy p past = after (firstOf (rule past ScanPastPayload ∷ [])) (atLeast (m .«min_length») p at (length payload))
+  abbrev pub foundBy : ℕ → ℕ → Bool → Outcome Span
+  foundBy least p past = after (firstOf (rule past ScanPastPayload ∷ [])) (atLeast least p at (length payload))
 
   -- that is the contract's answer, by the way to the end that the termination names
-  pub found-by : (t : Termination) (end p : ℕ) (past : Bool) → m .termination ≡ t → end ≡ maxEnd (m .«max_length») at (length payload)
-      → p ≡ endBy t unicode payload at (m .«min_length») end → (endsWithZero t && ltb (length payload) p) ≡ past → foundBy p past ≡ minMaxPlace m unicode payload at
-  found-by t end p past et ee ep eb = rw (et, ← ee, ← ep, eb)
+  pub found-by : (t : Termination) (least end p : ℕ) (past : Bool) → least ≡ m .«min_length» → m .termination ≡ t → end ≡ maxEnd (m .«max_length») at (length payload)
+      → p ≡ endBy t unicode payload at least end → (endsWithZero t && ltb (length payload) p) ≡ past → foundBy least p past ≡ minMaxPlace m unicode payload at
+  found-by t least end p past el et ee ep eb = rw (← el, et, ← ee, ← ep, eb)

@@ -1,4 +1,4 @@
--- How the code tells where data bytes between limits are; no part of document 01.
+-- How the code tells where data bytes between limits are; no part of RULES.
 use Prim.Native.Nat.{ℕ, _-_, _*_}
 use mathlib.Core.Bool.{Bool}
 use mathlib.Core.List.{List}

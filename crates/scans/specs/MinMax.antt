@@ -1,4 +1,4 @@
--- Document 01, 'Decode', MinMax.
+-- RULES 5.7 to 5.10: where data bytes between limits end.
 use Prim.Native.Nat.{ℕ, zero, suc, _+_, _-_, _/_, min}
 use mathlib.Core.Bool.{Bool, true, false, cond, _&&_}
 use mathlib.Core.List.{List, [], _∷_}

@@ -14,18 +14,19 @@ use kinds::PosInfo;
 use kinds::Refusal;
 
 // Where the data bytes end at the latest.
-fn max_end(max_length: MaxLength, byte_pos: usize, payload_len: usize) -> usize
-    ensures { λ r. ⌜ r ≡ maxEnd «max_length» «byte_pos» «payload_len» ⌝ }
+fn max_end(max_length: MaxLength, byte_pos: usize, payload_len: ByteCount) -> usize
+    ensures { λ r. ⌜ r ≡ maxEnd «max_length» «byte_pos» («payload_len» .0) ⌝ }
 {
+    let payload_end = payload_len.bytes();
     match max_length {
         MaxLength::Most(most) => {
-            let end_pos = kinds::saturating_add(byte_pos, most as usize);
-            if end_pos < payload_len {
+            let end_pos = kinds::saturating_add(byte_pos, ByteCount::of_number(most).bytes());
+            if end_pos < payload_end {
                 return end_pos;
             }
-            payload_len
+            payload_end
         }
-        MaxLength::Unlimited => payload_len,
+        MaxLength::Unlimited => payload_end,
     }
 }
 
@@ -43,13 +44,13 @@ fn byte_stops(
     terminator: u8,
     uds_payload: &[u8],
     byte_pos: usize,
-    min_length: usize,
+    min_length: ByteCount,
     end_pos: usize,
 ) -> bool
     requires { ⌜ «byte_pos» ≤ «end_pos» ⌝ }
-    ensures { λ r. ⌜ r ≡ stopsAt false terminator (now («uds_payload» .entry)) «byte_pos» «min_length» «end_pos» ⌝ }
+    ensures { λ r. ⌜ r ≡ stopsAt false terminator (now («uds_payload» .entry)) «byte_pos» («min_length» .0) «end_pos» ⌝ }
 {
-    if end_pos - byte_pos < min_length {
+    if end_pos - byte_pos < min_length.bytes() {
         return false;
     }
     has_at(terminator, uds_payload, end_pos)
@@ -60,14 +61,14 @@ fn pair_stops(
     terminator: u8,
     uds_payload: &[u8],
     byte_pos: usize,
-    min_length: usize,
+    min_length: ByteCount,
     end_pos: usize,
 ) -> bool
     requires { ⌜ «byte_pos» ≤ «end_pos» ⌝ }
     requires { ⌜ «end_pos» < 65535 ⌝ }
-    ensures { λ r. ⌜ r ≡ stopsAt true terminator (now («uds_payload» .entry)) «byte_pos» «min_length» «end_pos» ⌝ }
+    ensures { λ r. ⌜ r ≡ stopsAt true terminator (now («uds_payload» .entry)) «byte_pos» («min_length» .0) «end_pos» ⌝ }
 {
-    if end_pos - byte_pos < min_length {
+    if end_pos - byte_pos < min_length.bytes() {
         return false;
     }
     if has_at(terminator, uds_payload, end_pos) {
@@ -80,11 +81,11 @@ fn scan_bytes(
     terminator: u8,
     uds_payload: &[u8],
     byte_pos: usize,
-    min_length: usize,
+    min_length: ByteCount,
     max_end: usize,
 ) -> usize
     requires { ⌜ «max_end» ≤ 65535 ⌝ }
-    ensures { λ r. ⌜ r ≡ scan 1 (stopsAt false terminator (now («uds_payload» .entry)) «byte_pos» «min_length») («max_end» - «byte_pos») «byte_pos» ⌝ }
+    ensures { λ r. ⌜ r ≡ scan 1 (stopsAt false terminator (now («uds_payload» .entry)) «byte_pos» («min_length» .0)) («max_end» - «byte_pos») «byte_pos» ⌝ }
 {
     let mut end_pos = byte_pos;
     while end_pos < max_end {
@@ -101,11 +102,11 @@ fn scan_pairs(
     terminator: u8,
     uds_payload: &[u8],
     byte_pos: usize,
-    min_length: usize,
+    min_length: ByteCount,
     max_end: usize,
 ) -> usize
     requires { ⌜ «max_end» ≤ 65535 ⌝ }
-    ensures { λ r. ⌜ r ≡ scan 2 (stopsAt true terminator (now («uds_payload» .entry)) «byte_pos» «min_length») ((«max_end» - «byte_pos» + 1) / 2) «byte_pos» ⌝ }
+    ensures { λ r. ⌜ r ≡ scan 2 (stopsAt true terminator (now («uds_payload» .entry)) «byte_pos» («min_length» .0)) ((«max_end» - «byte_pos» + 1) / 2) «byte_pos» ⌝ }
 {
     let mut end_pos = byte_pos;
     while end_pos < max_end {
@@ -122,11 +123,11 @@ fn scan_for(
     is_unicode: bool,
     uds_payload: &[u8],
     byte_pos: usize,
-    min_length: usize,
+    min_length: ByteCount,
     max_end: usize,
 ) -> usize
     requires { ⌜ «max_end» ≤ 65535 ⌝ }
-    ensures { λ r. ⌜ r ≡ scanned «is_unicode» terminator (now («uds_payload» .entry)) «byte_pos» «min_length» «max_end» ⌝ }
+    ensures { λ r. ⌜ r ≡ scanned «is_unicode» terminator (now («uds_payload» .entry)) «byte_pos» («min_length» .0) «max_end» ⌝ }
 {
     if is_unicode {
         return scan_pairs(terminator, uds_payload, byte_pos, min_length, max_end);
@@ -135,29 +136,34 @@ fn scan_for(
 }
 
 // How far ahead a position lies, and 0 for one behind.
-fn distance(from: usize, to: usize) -> usize
-    ensures { λ r. ⌜ r ≡ «to» - «from» ⌝ }
+fn distance(from: usize, to: usize) -> ByteCount
+    ensures { λ r. ⌜ r .0 ≡ «to» - «from» ⌝ }
 {
     if from < to {
-        return to - from;
+        return ByteCount(to - from);
     }
-    0
+    ByteCount(0)
 }
 
 // The data bytes from a position to their end, unless they are fewer than the least.
-fn found_up_to(end_pos: usize, byte_pos: usize, min_length: usize, payload_len: usize) -> PosInfo
+fn found_up_to(
+    end_pos: usize,
+    byte_pos: usize,
+    min_length: ByteCount,
+    payload_len: ByteCount,
+) -> PosInfo
     requires { ⌜ «end_pos» - «byte_pos» ≤ 65536 ⌝ }
-    ensures { λ r. ⌜ outcomeOfSearch r ≡ atLeast «min_length» «end_pos» «byte_pos» «payload_len» ⌝ }
+    ensures { λ r. ⌜ outcomeOfSearch r ≡ atLeast («min_length» .0) «end_pos» «byte_pos» («payload_len» .0) ⌝ }
 {
     let len = distance(byte_pos, end_pos);
-    if len < min_length {
+    if len.bytes() < min_length.bytes() {
         return PosInfo::NotEnoughData {
-            expected: kinds::saturating_add(byte_pos, min_length),
-            actual: payload_len,
+            expected: kinds::saturating_add(byte_pos, min_length.bytes()),
+            actual: payload_len.bytes(),
         };
     }
     PosInfo::Found {
-        bit_len: ByteCount(len).bit_length(),
+        bit_len: len.bit_length(),
         start_pos: byte_pos,
     }
 }
@@ -171,15 +177,15 @@ pub fn pos_info_min_max_len(
     requires { ⌜ length (now «uds_payload») ≤ 65535 ⌝ }
     ensures { λ r. ⌜ outcomeOfSearch r ≡ minMaxPlace limits «is_unicode» (now («uds_payload» .entry)) «byte_pos» ⌝ }
 {
-    let min_length = limits.min_length as usize;
-    let payload_len = uds_payload.len();
+    let min_length = ByteCount::of_number(limits.min_length);
+    let payload_len = ByteCount(uds_payload.len());
     let max_end = max_end(limits.max_length(), byte_pos, payload_len);
     let termination = limits.termination;
     match termination {
         Termination::EndOfPdu => found_up_to(max_end, byte_pos, min_length, payload_len),
         Termination::Zero => {
             let end_pos = scan_for(0x00, is_unicode, uds_payload, byte_pos, min_length, max_end);
-            if payload_len < end_pos {
+            if uds_payload.len() < end_pos {
                 return PosInfo::Refused(Refusal::ScanPastPayload);
             }
             found_up_to(end_pos, byte_pos, min_length, payload_len)

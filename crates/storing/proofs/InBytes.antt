@@ -76,9 +76,9 @@ flags-written b =
     rw (flag-of (b % 2) 1 (omega arith), flag-of (b / 2 % 2) 2 (omega arith), flag-of (b / 4 % 2) 4 (omega arith), flag-of (b / 8 % 2) 8 (omega arith))
     (omega arith)
 
-pub numbers-read : (n : Numbers) → n .length < 2 ^ 32 → n .most < 2 ^ 32 → n .place .at < 65536 → n .place .len < 65536 → numbersOf (bytesOf n) ≡ n
+pub numbers-read : (n : Numbers) → n .length < 2 ^ 32 → n .most < 2 ^ 32 → n .place .at < 65536 → n .place .len .0 < 65536 → numbersOf (bytesOf n) ≡ n
 numbers-read n hl hm ha hn =
-    rw (flags-read (n .flags), four-bytes (n .length) hl, four-bytes (n .most) hm, two-bytes (n .place .at) ha, two-bytes (n .place .len) hn)
+    rw (flags-read (n .flags), four-bytes (n .length) hl, four-bytes (n .most) hm, two-bytes (n .place .at) ha, two-bytes (n .place .len .0) hn)
 
 -- a list is its elements in order
 abbrev elements : ℕ → (ℕ → ℕ) → List ℕ

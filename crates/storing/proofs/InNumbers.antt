@@ -122,8 +122,8 @@ module _ (n : Numbers) where
   nowhere-again e =
       let z = neither _ _ e in
       let at = zero-of (n .place .at) (z .0) in
-      let len = zero-of (n .place .len) (z .1) in
-      λ i. record { at = at i; len = len i }
+      let len = zero-of (n .place .len .0) (z .1) in
+      λ i. record { at = at i; len = record { 0 = len i } }
 
   place-again : (set : Bool) → (not set && hasPlace n) ≡ false → placeOrZeros (cond set (At (n .place)) Absent) ≡ n .place
   place-again true e = refl

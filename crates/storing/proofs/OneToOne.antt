@@ -25,12 +25,12 @@ use Rattle.storing.proofs.InBytes.{numbers-read, bytes-written}
 use Rattle.storing.proofs.InNumbers.{numbers-say, no-others-say}
 
 -- a place is refused unless 16 bits can say it
-sayable : (p : Place) → storingRefusal p ≡ Passed → (p .at < 65536) × (p .len < 65536)
+sayable : (p : Place) → storingRefusal p ≡ Passed → (p .at < 65536) × (p .len .0 < 65536)
 sayable p z =
     let at = rule-passed (ltb 65535 (p .at)) MalformedRecord _ z in
-    let len = rule-passed (ltb 65535 (p .len)) MalformedRecord _ (at .1) in
+    let len = rule-passed (ltb 65535 (p .len .0)) MalformedRecord _ (at .1) in
     let a = ltb-false 65535 (p .at) (at .0) in
-    let l = ltb-false 65535 (p .len) (len .0) in
+    let l = ltb-false 65535 (p .len .0) (len .0) in
     (omega arith, omega arith)
 
 -- a coded type whose record can say it: lengths of 32 bits, and 42 is not given

@@ -1,4 +1,4 @@
--- Document 01, 'Stored table': the record of a coded type.
+-- RULES 9.5: the record of a coded type.
 use Prim.Native.Nat.{ℕ, _+_, _*_, _/_, _%_}
 use mathlib.Core.Bool.{Bool, true, false, cond}
 use mathlib.Core.List.{List, [], _∷_}
@@ -30,7 +30,7 @@ terminationCode HexFF = 3
 
 -- what a variant lacks is 0
 abbrev pub nowhere : Place
-nowhere = record { at = 0; len = 0 }
+nowhere = record { at = 0; len = record { 0 = 0 } }
 
 abbrev pub isLimited : MaxLength → Bool
 isLimited (Most n) = true
@@ -115,12 +115,12 @@ bytesOf n =
     ∷ digit (n .length) 16777216 ∷ digit (n .length) 65536 ∷ digit (n .length) 256 ∷ digit (n .length) 1
     ∷ digit (n .most) 16777216 ∷ digit (n .most) 65536 ∷ digit (n .most) 256 ∷ digit (n .most) 1
     ∷ digit (n .place .at) 256 ∷ digit (n .place .at) 1
-    ∷ digit (n .place .len) 256 ∷ digit (n .place .len) 1
+    ∷ digit (n .place .len .0) 256 ∷ digit (n .place .len .0) 1
     ∷ []
 
 -- 42: a place or a length that 16 bits cannot say
 abbrev pub storingRefusal : Place → Check
-storingRefusal p = firstOf (rule (ltb 65535 (p .at)) MalformedRecord ∷ rule (ltb 65535 (p .len)) MalformedRecord ∷ [])
+storingRefusal p = firstOf (rule (ltb 65535 (p .at)) MalformedRecord ∷ rule (ltb 65535 (p .len .0)) MalformedRecord ∷ [])
 
 -- the record of a coded type; a refusal leaves the old bytes
 unfoldable pub storedRecord : DiagCodedType → List ℕ → Answer (List ℕ)

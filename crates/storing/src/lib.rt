@@ -13,6 +13,7 @@ use coded::OptionalPlace;
 use coded::Place;
 use coded::StandardLengthType;
 use coded::Termination;
+use kinds::ByteCount;
 use kinds::Check;
 use kinds::DataType;
 use kinds::Refusal;
@@ -77,7 +78,10 @@ fn place_or_zeros(place: OptionalPlace) -> Place
 {
     match place {
         OptionalPlace::At(there) => there,
-        OptionalPlace::Absent => Place { at: 0, len: 0 },
+        OptionalPlace::Absent => Place {
+            at: 0,
+            len: ByteCount(0),
+        },
     }
 }
 
@@ -99,7 +103,10 @@ fn min_max_numbers(type_code: u8, high_low: bool, limits: MinMaxLengthType) -> N
         termination: termination_code(termination),
         length: limits.min_length,
         most: most(max_length),
-        place: Place { at: 0, len: 0 },
+        place: Place {
+            at: 0,
+            len: ByteCount(0),
+        },
     }
 }
 
@@ -118,7 +125,7 @@ fn standard_numbers(type_code: u8, high_low: bool, standard: StandardLengthType)
         },
         variant: 3,
         termination: 0,
-        length: standard.bit_length.0,
+        length: standard.bit_length.number(),
         most: 0,
         place: place_or_zeros(bit_mask),
     }
@@ -133,7 +140,16 @@ fn numbers_for(coded_type: DiagCodedType) -> Numbers
     let type_ = coded_type.type_;
     match type_ {
         DiagCodedTypeVariant::LeadingLengthInfo(bits) => {
-            plain_numbers(code, high_low, 1, bits.0, Place { at: 0, len: 0 })
+            plain_numbers(
+                code,
+                high_low,
+                1,
+                bits.number(),
+                Place {
+                    at: 0,
+                    len: ByteCount(0),
+                },
+            )
         }
         DiagCodedTypeVariant::MinMaxLength(limits) => min_max_numbers(code, high_low, limits),
         DiagCodedTypeVariant::StandardLength(standard) => {
@@ -194,15 +210,16 @@ pub fn record_of(coded_type: DiagCodedType, record: &mut [u8; RECORD_SIZE]) -> C
     ensures { λ r. ⌜ answer (reportOfCheck r) (now («record» .exit)) ≡ storedRecord «coded_type» (now («record» .entry)) ⌝ }
 {
     let numbers = numbers_for(coded_type);
+    let bytes = numbers.place.len.bytes();
     if 65535 < numbers.place.at {
         return Check::Refused(Refusal::MalformedRecord);
     }
-    if 65535 < numbers.place.len {
+    if 65535 < bytes {
         return Check::Refused(Refusal::MalformedRecord);
     }
     let flags = flags_byte(numbers.flags);
     let at = numbers.place.at as u32;
-    let len = numbers.place.len as u32;
+    let len = bytes as u32;
     *record = [
         numbers.type_code,
         flags,

@@ -24,7 +24,7 @@ total-if size false h f = f refl
 right-size : (table : List ℕ) (h : Header) → isWrong table h ≡ false → totalSize h ≡ length table
 right-size table h e =
     let total = eqb (length table) (totalSize h) in
-    let others = ltb (length table) headerSize || not (isMarked table) || ltb 1024 (h .count) || ltb 32768 (h .«store_len») in
+    let others = ltb (length table) headerSize || not (isMarked table) || ltb 1024 (h .count) || ltb 32768 (h .«store_len» .0) in
     sym (eqb-true (length table) (totalSize h) (not-false total (neither others (not total) e .1)))
 
 pub total-size : (table : List ℕ) (h : Header) → Valid h ≡ headerOf table → totalSize h ≡ length table

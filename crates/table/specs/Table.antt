@@ -1,4 +1,4 @@
--- Document 01, 'Stored table': the header, and the record with a number.
+-- RULES 9.6 to 9.8: the header, and the record with a number.
 use Prim.Native.Nat.{ℕ, _+_, _*_}
 use mathlib.Core.Bool.{Bool, cond, not, _&&_, _||_}
 use mathlib.Core.List.{List, [], _∷_}
@@ -25,7 +25,7 @@ isMarked table = eqb (getD table 0 0) 0x44 && eqb (getD table 1 0) 0x43 && eqb (
 
 -- count and store length in 16 bits each
 abbrev pub saidBy : List ℕ → Header
-saidBy table = record { count = be16 table 5; «store_len» = be16 table 7 }
+saidBy table = record { count = be16 table 5; «store_len» = record { 0 = be16 table 7 } }
 
 -- a header of 9 bytes, 16-byte records, the store
 abbrev pub headerSize : ℕ
@@ -35,7 +35,7 @@ abbrev pub recordPlace : ℕ → ℕ
 recordPlace number = headerSize + recordSize * number
 
 abbrev pub totalSize : Header → ℕ
-totalSize h = recordPlace (h .count) + h .«store_len»
+totalSize h = recordPlace (h .count) + h .«store_len» .0
 
 -- 45: mark, version or total size wrong, count above 1,024, store length above 32,768
 abbrev pub isWrong : List ℕ → Header → Bool
@@ -43,7 +43,7 @@ isWrong table h =
     ltb (length table) headerSize
     || not (isMarked table)
     || ltb 1024 (h .count)
-    || ltb storeLimit (h .«store_len»)
+    || ltb storeLimit (h .«store_len» .0)
     || not (eqb (length table) (totalSize h))
 
 abbrev pub headerOf : List ℕ → OptionalHeader
@@ -59,7 +59,7 @@ abbrev pub recordFetched : List ℕ → Header → ℕ → Outcome Entry
 recordFetched table h number =
     after (firstOf (rule (leb (h .count) number) MalformedRecord ∷ []))
     (following (wellFormed (codedIn (cut (recordPlace number) recordSize table)))
-    (λ t. after (descriptionRefusal t (h .«store_len»)) (gives (entry h number t))))
+    (λ t. after (descriptionRefusal t (h .«store_len» .0)) (gives (entry h number t))))
 
 -- 45
 abbrev pub fetchedUnder : List ℕ → ℕ → OptionalHeader → Outcome Entry

@@ -4,6 +4,7 @@ ghost use Prim.Native.Nat.{_≤_};
 ghost use lib.ListN.{length};
 ghost use Rattle.table.specs.Table.{headerSize, recordPlace, totalSize, isMarked, headerOf, recordFetched, fetched, outcomeOfFetched};
 use coded::DiagCodedType;
+use kinds::ByteCount;
 use kinds::Check;
 use kinds::Refusal;
 use kinds::SLICE_LIMIT;
@@ -19,7 +20,7 @@ const HEADER_SIZE: usize = 9;
 // What the header says: how many records there are, and how many bytes the store has.
 pub struct Header {
     pub count: usize,
-    pub store_len: usize,
+    pub store_len: ByteCount,
 }
 
 // A record of the table: the coded type that it says, where it starts, and where the store is.
@@ -27,7 +28,7 @@ pub struct Entry {
     pub coded_type: DiagCodedType,
     pub record_at: usize,
     pub store_at: usize,
-    pub store_len: usize,
+    pub store_len: ByteCount,
 }
 
 pub enum OptionalHeader {
@@ -77,14 +78,15 @@ fn read_header(table: &[u8]) -> OptionalHeader
         return OptionalHeader::Malformed;
     }
     let count = read16(table, 5) as usize;
-    let store_len = read16(table, 7) as usize;
+    let store_len = ByteCount(read16(table, 7) as usize);
+    let store_bytes = store_len.bytes();
     if 1024 < count {
         return OptionalHeader::Malformed;
     }
-    if STORE_LIMIT < store_len {
+    if STORE_LIMIT < store_bytes {
         return OptionalHeader::Malformed;
     }
-    let total = record_place(count) + store_len;
+    let total = record_place(count) + store_bytes;
     if table.len() != total {
         return OptionalHeader::Malformed;
     }

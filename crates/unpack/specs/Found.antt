@@ -1,4 +1,4 @@
--- Document 01, 'Refusal numbers': what a reading finds, and what becomes of the output.
+-- RULES 5.14: what a reading finds, and what becomes of the output.
 use Prim.Native.Nat.{ℕ}
 use mathlib.Core.List.{List, [], _∷_, _++_}
 use lib.ListN.{length, drop}

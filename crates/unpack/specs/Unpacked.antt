@@ -1,4 +1,4 @@
--- Document 01, 'Decode': what is taken from a field's ordered bytes, under its mask.
+-- RULES 5.1 to 5.4: what is taken from a field's ordered bytes, under its mask.
 use Prim.Native.Nat.{ℕ, _+_, _*_}
 use mathlib.Core.List.{List, [], _∷_}
 use lib.ListN.{length}

@@ -10,6 +10,7 @@ ghost use Rattle.kinds.specs.Outcomes.{gives, answer};
 ghost use Rattle.unpack.specs.Found.{readAnswer};
 ghost use Rattle.unpack.specs.Unpacked.{unpacked, unpackedFound, foundIn};
 use kinds::BitLength;
+use kinds::ByteCount;
 use kinds::ByteOrder;
 use kinds::Reading;
 use kinds::Refusal;
@@ -125,7 +126,7 @@ pub fn unpack_data(
     if 7 < bit_pos {
         return Reading::Refused(Refusal::BitPositionAboveSeven);
     }
-    if 8 * data.len() < bit_pos + bit_len.bits() {
+    if ByteCount(data.len()).bit_end() < bit_pos + bit_len.bits() {
         return Reading::Refused(Refusal::BitsPastCut);
     }
     match mask_use {

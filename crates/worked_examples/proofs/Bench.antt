@@ -1,4 +1,4 @@
--- Document 01, 'Bench cases': those that are marked, from record to bytes, as one table that the checker computes.
+-- RULES 13: the cases that are marked, from record to bytes, as one table that the checker computes.
 use mathlib.Core.Path.{_≡_, refl}
 use mathlib.Core.Bool.{true}
 use mathlib.Core.List.{List, [], _∷_, _++_}

@@ -22,7 +22,7 @@ plainly bits = under bits Absent false
 
 -- the mask is the whole store
 abbrev pub whole : ℕ → OptionalPlace
-whole n = At (record { at = 0; len = n })
+whole n = At (record { at = 0; len = record { 0 = n } })
 
 abbrev pub behind : ℕ → DiagCodedTypeVariant
 behind bits = LeadingLengthInfo (record { 0 = bits })
@@ -32,4 +32,4 @@ limited least most t = MinMaxLength (record { «min_length» = least; «max_leng
 
 -- a parameter whose name is empty gives the length
 abbrev pub unnamed : DiagCodedTypeVariant
-unnamed = ParamLengthInfo (record { at = 0; len = 0 })
+unnamed = ParamLengthInfo (record { at = 0; len = record { 0 = 0 } })

@@ -1,4 +1,4 @@
--- The decode halves of document 01's bench cases, and corners beside them, as one table that the checker computes.
+-- The decode halves of the bench cases (RULES 13), and corners beside them, as one table that the checker computes.
 use mathlib.Core.Path.{_≡_, refl}
 use mathlib.Core.Bool.{true, false}
 use mathlib.Core.List.{List, [], _∷_, _++_}

@@ -1,4 +1,4 @@
--- The halves of document 01's bench cases that write, and corners beside them, as one table that the checker computes.
+-- The halves of the bench cases (RULES 13) that write, and corners beside them, as one table that the checker computes.
 use mathlib.Core.Path.{_≡_, refl}
 use mathlib.Core.Bool.{true, false}
 use mathlib.Core.List.{List, [], _∷_, _++_}

@@ -1,4 +1,4 @@
--- Document 01, 'Encode and clear': what each variant makes of a payload, and a field's whole answer to an encode.
+-- RULES 7: what each variant makes of a payload, and a field's whole answer to an encode.
 use Prim.Native.Nat.{ℕ}
 use mathlib.Core.Bool.{Bool, cond}
 use mathlib.Core.List.{List}

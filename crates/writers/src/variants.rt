@@ -48,11 +48,12 @@ pub fn encode_standard_len(
         Check::Passed => {
             let mask_use = effective_use(described_use, mask);
             let byte_type = base_datatype.is_byte_type();
-            let packing = pack::pack_data(bit_len, mask_use, mask, input.len(), byte_type);
-            let data_len = packing.data_len;
+            let given = ByteCount(input.len());
+            let packing = pack::pack_data(bit_len, mask_use, mask, given, byte_type);
+            let taken = packing.data_len.bytes();
             payload::write_source(
                 packing,
-                &input[..data_len],
+                &input[..taken],
                 mask_use,
                 mask,
                 byte_order,
@@ -76,7 +77,7 @@ fn write_bytes(
     bit_pos: usize,
 ) -> Writing
     requires { ⌜ length (now input) ≤ 65535 ⌝ }
-    requires { ⌜ packing .«tail_len» < 2 ^ 32 ⌝ }
+    requires { ⌜ packing .«tail_len» .0 < 2 ^ 32 ⌝ }
     requires { ⌜ length (now payload) ≤ 65535 ⌝ }
     requires { ⌜ now used ≤ length (now payload) ⌝ }
     ensures { λ r. ⌜ answer (reportOfWriting r) (payloadOf (now (payload .exit)) (now (used .exit))) ≡ writeAnswer (payloadOf (now (payload .entry)) (now (used .entry))) (writing «byte_order» (packedSource packing noMask (now (input .entry))) (payloadOf (now (payload .entry)) (now (used .entry))) «byte_pos» «bit_pos») ⌝ }
@@ -110,12 +111,12 @@ pub fn encode_leading_length(
     requires { ⌜ now used ≤ length (now payload) ⌝ }
     ensures { λ r. ⌜ answer (reportOfWriting r) (payloadOf (now (payload .exit)) (now (used .exit))) ≡ writeAnswer (payloadOf (now (payload .entry)) (now (used .entry))) (leadingEncoded «byte_order» (now (input .entry)) (payloadOf (now (payload .entry)) (now (used .entry))) «byte_pos» «bit_pos» («bit_len» .0)) ⌝ }
 {
-    match validate_leading_length(bit_len, input.len()) {
+    let data_len = ByteCount(input.len());
+    match validate_leading_length(bit_len, data_len) {
         Check::Refused(refusal) => Writing::Refused(refusal),
         Check::Passed => {
-            let data_len = input.len();
-            let total = bit_len.byte_count().bytes() + data_len;
-            let packing = pack::frame(ByteCount(total), data_len, data_len, 0, 0);
+            let total = ByteCount(bit_len.byte_count().bytes() + input.len());
+            let packing = pack::frame(total, input.len(), data_len, 0, ByteCount(0));
             write_bytes(packing, input, byte_order, payload, used, byte_pos, bit_pos)
         }
     }
@@ -124,7 +125,7 @@ pub fn encode_leading_length(
 // The input, and then so many bytes of a terminator.
 fn write_terminated(
     tail: u8,
-    tail_len: usize,
+    tail_len: ByteCount,
     input: &[u8],
     byte_order: ByteOrder,
     payload: &mut [u8],
@@ -132,26 +133,25 @@ fn write_terminated(
     byte_pos: usize,
     bit_pos: usize,
 ) -> Writing
-    requires { ⌜ «tail_len» ≤ 2 ⌝ }
+    requires { ⌜ «tail_len» .0 ≤ 2 ⌝ }
     requires { ⌜ length (now input) ≤ 65535 ⌝ }
     requires { ⌜ length (now payload) ≤ 65535 ⌝ }
     requires { ⌜ now used ≤ length (now payload) ⌝ }
-    ensures { λ r. ⌜ answer (reportOfWriting r) (payloadOf (now (payload .exit)) (now (used .exit))) ≡ writeAnswer (payloadOf (now (payload .entry)) (now (used .entry))) (writing «byte_order» (bytesSource (terminated (now (input .entry)) «tail_len» tail)) (payloadOf (now (payload .entry)) (now (used .entry))) «byte_pos» «bit_pos») ⌝ }
+    ensures { λ r. ⌜ answer (reportOfWriting r) (payloadOf (now (payload .exit)) (now (used .exit))) ≡ writeAnswer (payloadOf (now (payload .entry)) (now (used .entry))) (writing «byte_order» (bytesSource (terminated (now (input .entry)) («tail_len» .0) tail)) (payloadOf (now (payload .entry)) (now (used .entry))) «byte_pos» «bit_pos») ⌝ }
 {
-    let data_len = input.len();
-    let total = data_len + tail_len;
-    let packing = pack::frame(ByteCount(total), 0, data_len, tail, tail_len);
+    let total = ByteCount(input.len() + tail_len.bytes());
+    let packing = pack::frame(total, 0, ByteCount(input.len()), tail, tail_len);
     write_bytes(packing, input, byte_order, payload, used, byte_pos, bit_pos)
 }
 
 // A terminator is as long as a character.
-fn terminator_len(is_unicode: bool) -> usize
-    ensures { λ r. ⌜ r ≡ cond «is_unicode» 2 1 ⌝ }
+fn terminator_len(is_unicode: bool) -> ByteCount
+    ensures { λ r. ⌜ r .0 ≡ cond «is_unicode» 2 1 ⌝ }
 {
     if is_unicode {
-        return 2;
+        return ByteCount(2);
     }
-    1
+    ByteCount(1)
 }
 
 pub fn encode_min_max_len(
@@ -169,13 +169,14 @@ pub fn encode_min_max_len(
     requires { ⌜ now used ≤ length (now payload) ⌝ }
     ensures { λ r. ⌜ answer (reportOfWriting r) (payloadOf (now (payload .exit)) (now (used .exit))) ≡ writeAnswer (payloadOf (now (payload .entry)) (now (used .entry))) (minMaxEncoded «byte_order» (now (input .entry)) (payloadOf (now (payload .entry)) (now (used .entry))) «byte_pos» «bit_pos» «is_unicode» termination) ⌝ }
 {
+    let none = ByteCount(0);
     let count = terminator_len(is_unicode);
     match termination {
         Termination::EndOfPdu => {
             if input.len() == 0 {
                 return Writing::Refused(Refusal::EmptyUntilEndOfPdu);
             }
-            write_terminated(0, 0, input, byte_order, payload, used, byte_pos, bit_pos)
+            write_terminated(0, none, input, byte_order, payload, used, byte_pos, bit_pos)
         }
         Termination::Zero => write_terminated(
             0,
@@ -216,5 +217,6 @@ pub fn encode_param_len(
     if input.len() == 0 {
         return Writing::Written;
     }
-    write_terminated(0, 0, input, byte_order, payload, used, byte_pos, bit_pos)
+    let none = ByteCount(0);
+    write_terminated(0, none, input, byte_order, payload, used, byte_pos, bit_pos)
 }

@@ -32,10 +32,26 @@ impl Call {
     }
 }
 
+/// The letters of the classes, as RULES 10 has them.
+pub mod class {
+    pub const BAD_PAYLOAD: u32 = b'B' as u32;
+    pub const NOT_ENOUGH_DATA: u32 = b'N' as u32;
+    pub const INVALID_DATABASE: u32 = b'D' as u32;
+    pub const OURS: u32 = b'P' as u32;
+    pub const ALL: [u32; 4] = [BAD_PAYLOAD, NOT_ENOUGH_DATA, INVALID_DATABASE, OURS];
+}
+
+/// A letter as it is printed.
+pub fn shown(class: u32) -> char {
+    char::from_u32(class).filter(char::is_ascii_alphabetic).unwrap_or('-')
+}
+
 /// All that follows from a call's input: nothing that the library lets a caller see is left out.
 #[derive(Clone, Debug, Default, PartialEq, Eq)]
 pub struct Answer {
     pub number: u32,
+    /// The letter of the number's class, 0 on success.
+    pub class: u32,
     /// Bit count, byte count, expected, actual.
     pub report: [usize; 4],
     /// The output after a decode, the payload after an encode or a clear, the part that a read found.
@@ -47,7 +63,7 @@ pub struct Answer {
 }
 
 impl Answer {
-    /// A refusal, which leaves what was lent as it came.
+    /// A refusal of the class that the original has not, which leaves what was lent as it came.
     pub fn refused(number: u32, call: &Call) -> Answer {
         let (bytes, used) = match call {
             Call::Decode { output, .. } => (output.clone(), 0),
@@ -55,12 +71,12 @@ impl Answer {
             Call::Clear { payload, .. } => (payload.clone(), 0),
             Call::Read { .. } | Call::Fetch { .. } => (Vec::new(), 0),
         };
-        Answer { number, bytes, used, ..Answer::default() }
+        Answer { number, class: class::OURS, bytes, used, ..Answer::default() }
     }
 
     /// The refusal 30.
     pub fn short(expected: usize, actual: usize, call: &Call) -> Answer {
-        Answer { report: [0, 0, expected, actual], ..Answer::refused(30, call) }
+        Answer { class: class::NOT_ENOUGH_DATA, report: [0, 0, expected, actual], ..Answer::refused(30, call) }
     }
 }
 
@@ -112,7 +128,8 @@ impl fmt::Display for Case {
 impl fmt::Display for Answer {
     fn fmt(&self, f: &mut fmt::Formatter) -> fmt::Result {
         let [bits, bytes, expected, actual] = self.report;
-        write!(f, "{}, {bits} bits, {bytes} bytes, expected {expected}, actual {actual}, ", self.number)?;
+        let class = shown(self.class);
+        write!(f, "{} {class}, {bits} bits, {bytes} bytes, expected {expected}, actual {actual}, ", self.number)?;
         write!(f, "used {}, places {:?}, bytes {}", self.used, self.places, Hex(&self.bytes))
     }
 }

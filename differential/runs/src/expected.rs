@@ -1,4 +1,4 @@
-//! What a call should answer: document 01's rules on slices, records and room, and for all else the original.
+//! What a call should answer: the rules of docs/RULES.md on slices, records and room, and for all else the original.
 use crate::case::{Answer, Call, Case};
 use crate::field::{Field, Variant, is_numeric};
 use crate::original_side::{Refusal, coded_type};
@@ -43,9 +43,14 @@ pub fn expected(case: &Case, met: &mut Met) -> Answer {
     };
     match coded_type(&field).and_then(|coded| answered(&field, &coded, call, met)) {
         Ok(answer) => answer,
-        Err(Refusal { number: 30, expected, actual }) => Answer::short(expected, actual, call),
-        Err(Refusal { number, .. }) => Answer::refused(number, call),
+        Err(refusal) => refused(&refusal, call),
     }
+}
+
+/// The answer of a call that the original refuses, of the class that it has there.
+fn refused(refusal: &Refusal, call: &Call) -> Answer {
+    let Refusal { number, class, expected, actual } = *refusal;
+    Answer { class, report: [0, 0, expected, actual], ..Answer::refused(number, call) }
 }
 
 /// What a call on a legal coded type answers.
@@ -159,27 +164,27 @@ fn clearing(field: &Field) -> Option<(Field, Vec<u8>)> {
     Some((Field { variant: Variant::Standard { bits: *bits, mask: Some(mask), condensed }, ..field.clone() }, zeros))
 }
 
-/// Document 01's stored table, and of the record that is fetched what the original's constructors say.
+/// The stored table (RULES 9), and of the record that is fetched what the original's constructors say.
 fn fetched(table: &[u8], number: usize, call: &Call) -> Answer {
-    let refused = |number| Answer::refused(number, call);
+    let ours = |number| Answer::refused(number, call);
     if table.len() > SLICE {
-        return refused(43);
+        return ours(43);
     }
     if table.len() < 9 || table[..3] != *b"DCT" {
-        return refused(45);
+        return ours(45);
     }
     let [version, count, store] = [3, 5, 7].map(|i| usize::from(u16::from_be_bytes([table[i], table[i + 1]])));
     let store_at = 9 + 16 * count;
     if version != 1 || count > 1024 || store > STORE || table.len() != store_at + store {
-        return refused(45);
+        return ours(45);
     }
     if number >= count {
-        return refused(42);
+        return ours(42);
     }
     let place = 9 + 16 * number;
     match Field::parse(&table[place..place + 16], &table[store_at..]).map(|field| coded_type(&field)) {
         Ok(Ok(_)) => Answer { places: [place, store_at, store], ..Answer::default() },
-        Ok(Err(refusal)) => refused(refusal.number),
-        Err(number) => refused(number),
+        Ok(Err(refusal)) => refused(&refusal, call),
+        Err(number) => ours(number),
     }
 }

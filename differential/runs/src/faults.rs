@@ -1,5 +1,5 @@
 //! Shows that the runs can fail: libraries that are ours but for a small fault, each of which the runs must notice.
-use crate::case::{Answer, Call, Case};
+use crate::case::{Answer, Call, Case, class};
 use crate::exhaustive::{self, Lists};
 use crate::field::{Field, UNICODE2, UTF8, Variant, is_numeric};
 use crate::library::{call, call_then};
@@ -189,7 +189,8 @@ const WRITING: [(&str, Faulty); 16] = [
             let (input, used, byte_pos, bit_pos) = (input.clone(), *used, *byte_pos, *bit_pos);
             let encode = Call::Encode { input, payload: cleared.bytes, used, byte_pos, bit_pos };
             let answer = call(&Case { record, store, call: encode })?;
-            Ok(if answer.number == 0 { answer } else { Answer::refused(answer.number, &case.call) })
+            let Answer { number, class, .. } = answer;
+            Ok(if number == 0 { answer } else { Answer { class, ..Answer::refused(number, &case.call) } })
         }
         _ => call(case),
     }),
@@ -298,7 +299,7 @@ const WRITING: [(&str, Faulty); 16] = [
     ("clear: a byte type succeeds", |case| on_number(case, 39, |answer| answer.number = 0)),
 ];
 
-const AROUND: [(&str, Faulty); 12] = [
+const AROUND: [(&str, Faulty); 14] = [
     ("a flag bit of 16 ignored", |case| {
         let mut case = case.clone();
         case.record.iter_mut().skip(1).take(1).for_each(|flags| *flags &= !16);
@@ -341,6 +342,8 @@ const AROUND: [(&str, Faulty); 12] = [
         Ok(field) if is_numeric(field.data_type) => on_number(case, 12, |answer| answer.number = 10),
         _ => call(case),
     }),
+    ("37 of the class of a bad payload", |case| on_number(case, 37, |answer| answer.class = class::BAD_PAYLOAD)),
+    ("41 of the class of too little data", |case| on_number(case, 41, |answer| answer.class = class::NOT_ENOUGH_DATA)),
     ("fetch: any version taken", |case| {
         let mut case = case.clone();
         if let Call::Fetch { table, .. } = &mut case.call

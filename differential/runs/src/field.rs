@@ -1,4 +1,4 @@
-//! A field's description as document 01 has it, and the 16 bytes that a record says it in. The reading of a record here is
+//! A field's description as RULES 9 has it, and the 16 bytes that a record says it in. The reading of a record here is
 //! written from the document and not from the library, which it is compared with.
 
 /// The eight types in the order of their codes, 1 to 8.

@@ -1,6 +1,6 @@
 //! Our library, called as C calls it: everything lent stands between marks, so that a byte written beside it shows.
 use crate::case::{Answer, Call, Case};
-use dct::raw::{dct_clear, dct_decode, dct_encode, dct_fetch, dct_read};
+use dct::raw::{dct_class, dct_clear, dct_decode, dct_encode, dct_fetch, dct_read};
 use std::ptr;
 
 const MARK: [u8; 16] = [0xC5; 16];
@@ -82,6 +82,7 @@ fn made(call: &Call, lent: &mut Lent, answer: &mut Answer) {
             Call::Fetch { number, .. } => dct_fetch(r, m, number, places),
         }
     };
+    answer.class = unsafe { dct_class(answer.number) };
 }
 
 /// The library's answer, or what it touched that it should not have.

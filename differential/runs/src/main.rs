@@ -7,6 +7,7 @@ mod exhaustive;
 mod expected;
 mod faults;
 mod field;
+mod getters;
 mod large;
 mod library;
 mod original_side;
@@ -22,7 +23,9 @@ differential short [SEED]   the runs of about a minute
 differential long [SEED]    all short inputs, and over 200 million calls
 differential bench          our library beside the original, timed and counted
 differential faults         that the runs can fail: libraries with a small fault each, and where that shows
-differential edits          wrong edits of the library's source, and how many stored answers they change
+differential edits          wrong edits of the library's source, and what they change of stored answers and of the getters
+differential getters stdin  the records of which the program getters prints what our getters say, to the standard output
+differential getters stdout what the original's getters say of them, line by line
 differential store          the answers of the original that the program replay makes again, to the standard output";
 
 /// The four runs: one in so many of the short inputs, and so many of the others.
@@ -59,6 +62,8 @@ fn main() -> ExitCode {
         ["bench"] => bench::run(),
         ["faults"] => faults::run(),
         ["edits"] => edits::run(),
+        ["getters", "stdin"] => getters::records(),
+        ["getters", "stdout"] => getters::lines(),
         ["store"] => stored::run(1),
         ["spin", label, side, times] => {
             bench::spin(label, side, times.parse().expect("a number of calls"));

@@ -1,14 +1,16 @@
 //! The original's side of a call: a coded type built through its constructors, and its messages turned into our numbers.
+use crate::case::class;
 use crate::field::{self, Field, Variant};
 use original::DiagServiceError;
 use original::diag_coded_type::{
     DataType, DiagCodedType, DiagCodedTypeVariant, MinMaxLengthType, StandardLengthType, Termination,
 };
 
-/// A refusal of the original: our number, and for 30 what it expected and found.
+/// A refusal of the original: our number, the class that it has there, and for 30 what it expected and found.
 #[derive(Debug, PartialEq, Eq)]
 pub struct Refusal {
     pub number: u32,
+    pub class: u32,
     pub expected: usize,
     pub actual: usize,
 }
@@ -40,23 +42,23 @@ const WORDS: [(&str, u32); 22] = [
 ];
 
 impl From<DiagServiceError> for Refusal {
-    /// 10 and 37 are faults of the database and all others of the payload; a text in the wrong class, or one that is not
-    /// listed, has the number 99, which the library never gives.
+    /// The class is the error's case, and the number is known by the text; a text that is not listed has the number 99, which
+    /// the library never gives.
     fn from(error: DiagServiceError) -> Refusal {
-        let (text, of_the_database) = match error {
-            DiagServiceError::NotEnoughData { expected, actual } => return Refusal { number: 30, expected, actual },
-            DiagServiceError::InvalidDatabase(text) => (text, true),
-            DiagServiceError::BadPayload(text) => (text, false),
+        let (text, class) = match error {
+            DiagServiceError::NotEnoughData { expected, actual } => {
+                return Refusal { number: 30, class: class::NOT_ENOUGH_DATA, expected, actual };
+            }
+            DiagServiceError::InvalidDatabase(text) => (text, class::INVALID_DATABASE),
+            DiagServiceError::BadPayload(text) => (text, class::BAD_PAYLOAD),
         };
         let number = WORDS.iter().find(|(words, _)| text.contains(words)).map_or(99, |(_, number)| *number);
-        let number = if matches!(number, 10 | 37) == of_the_database { number } else { 99 };
-        Refusal { number, expected: 0, actual: 0 }
+        Refusal { number, class, expected: 0, actual: 0 }
     }
 }
 
-/// The coded type of a field, through `MinMaxLengthType::new` and then `new`.
-pub fn coded_type(field: &Field) -> Result<DiagCodedType, Refusal> {
-    let data_type = match field.data_type {
+pub fn data_type(code: u8) -> DataType {
+    match code {
         field::INT32 => DataType::Int32,
         field::UINT32 => DataType::UInt32,
         field::FLOAT32 => DataType::Float32,
@@ -66,16 +68,23 @@ pub fn coded_type(field: &Field) -> Result<DiagCodedType, Refusal> {
         field::BYTE_FIELD => DataType::ByteField,
         field::FLOAT64 => DataType::Float64,
         other => panic!("no type has the code {other}"),
-    };
-    let variant = match &field.variant {
+    }
+}
+
+pub fn termination(code: u8) -> Termination {
+    match code {
+        field::END_OF_PDU => Termination::EndOfPdu,
+        field::ZERO => Termination::Zero,
+        _ => Termination::HexFF,
+    }
+}
+
+/// The variant of a field, with limits that are made by `MinMaxLengthType::new`.
+pub fn variant(field: &Field) -> Result<DiagCodedTypeVariant, Refusal> {
+    Ok(match &field.variant {
         Variant::Leading(bits) => DiagCodedTypeVariant::LeadingLengthInfo(*bits),
-        Variant::MinMax { min, max, termination } => {
-            let termination = match *termination {
-                field::END_OF_PDU => Termination::EndOfPdu,
-                field::ZERO => Termination::Zero,
-                _ => Termination::HexFF,
-            };
-            DiagCodedTypeVariant::MinMaxLength(MinMaxLengthType::new(*min, *max, termination)?)
+        Variant::MinMax { min, max, termination: code } => {
+            DiagCodedTypeVariant::MinMaxLength(MinMaxLengthType::new(*min, *max, termination(*code))?)
         }
         Variant::Standard { bits, mask, condensed } => DiagCodedTypeVariant::StandardLength(StandardLengthType {
             bit_length: *bits,
@@ -84,6 +93,10 @@ pub fn coded_type(field: &Field) -> Result<DiagCodedType, Refusal> {
         }),
         // its names are UTF-8, and no answer depends on them
         Variant::Param(name) => DiagCodedTypeVariant::ParamLengthInfo(String::from_utf8_lossy(name).into_owned()),
-    };
-    Ok(DiagCodedType::new(data_type, variant, field.high_low)?)
+    })
+}
+
+/// The coded type of a field, through `MinMaxLengthType::new` and then `new`.
+pub fn coded_type(field: &Field) -> Result<DiagCodedType, Refusal> {
+    Ok(DiagCodedType::new(data_type(field.data_type), variant(field)?, field.high_low)?)
 }

@@ -1,5 +1,5 @@
 //! A run: cases by their numbers, the library's answer to each beside the expected one, and what was counted.
-use crate::case::{Answer, Call, Case};
+use crate::case::{Answer, Call, Case, class, shown};
 use crate::expected::{Met, expected};
 use std::sync::Mutex;
 use std::sync::atomic::{AtomicU64, Ordering};
@@ -16,11 +16,13 @@ pub struct Tally {
     pub met: Met,
     /// How often each call gave each number.
     pub numbers: [[u64; 100]; 5],
+    /// How often each class arose, in the order of `class::ALL`.
+    pub classes: [u64; 4],
 }
 
 impl Tally {
     pub fn new() -> Tally {
-        Tally { calls: 0, differences: 0, met: Met::default(), numbers: [[0; 100]; 5] }
+        Tally { calls: 0, differences: 0, met: Met::default(), numbers: [[0; 100]; 5], classes: [0; 4] }
     }
 
     pub fn add(&mut self, other: &Tally) {
@@ -32,12 +34,18 @@ impl Tally {
         for (mine, theirs) in self.numbers.iter_mut().flatten().zip(other.numbers.iter().flatten()) {
             *mine += theirs;
         }
+        for (mine, theirs) in self.classes.iter_mut().zip(other.classes) {
+            *mine += theirs;
+        }
     }
 
-    /// Counts a call and its number.
+    /// Counts a call, its number and its class.
     pub fn count(&mut self, case: &Case, answer: &Answer) {
         self.calls += 1;
         self.numbers[case.call.kind()][answer.number as usize] += 1;
+        if let Some(place) = class::ALL.iter().position(|class| *class == answer.class) {
+            self.classes[place] += 1;
+        }
     }
 
     /// How often a call gave each number.
@@ -60,7 +68,7 @@ impl Tally {
     }
 }
 
-/// The numbers that document 01 lets each call give, in the order of `Call::NAMES`.
+/// The numbers that RULES 10 lets each call give, in the order of `Call::NAMES`.
 const NUMBERS: [&[u32]; 5] = [
     &[0, 10, 11, 12, 13, 20, 21, 22, 23, 24, 25, 26, 27, 30, 31, 32, 34, 37, 41, 42, 43],
     &[0, 10, 11, 12, 13, 20, 21, 22, 23, 24, 25, 26, 32, 33, 35, 36, 38, 40, 42, 43, 44],
@@ -85,6 +93,10 @@ impl Tally {
                 all = false;
             }
         }
+        let classes: Vec<String> =
+            class::ALL.iter().zip(self.classes).map(|(class, n)| format!("{}: {n}", shown(*class))).collect();
+        println!("classes: {}", classes.join(", "));
+        all &= self.classes.iter().all(|count| *count > 0);
         let Met { far, grown, room } = self.met;
         println!(
             "known differences met: {room} where room decides, {grown} refused by the Rust after it had grown the payload,"

@@ -4,7 +4,7 @@ mod cases;
 mod stored;
 
 use call::Case;
-use dct::Refusal;
+use dct::{Class, Refusal};
 use std::collections::HashSet;
 use std::sync::LazyLock;
 
@@ -104,11 +104,44 @@ fn numbers_of_the_header() {
     };
     let ours: Vec<(String, u32, String)> = NUMBERS.lines().filter_map(listed).collect();
     assert_eq!(ours, header());
-    assert_eq!(ours.len(), HEADER.matches("    DCT_").count());
+    assert_eq!(ours.len() + classes().len(), HEADER.matches("    DCT_").count());
     for (_, number, sentence) in ours {
         assert_eq!(Refusal { number, expected: 0, actual: 0 }.meaning(), sentence);
     }
     assert_eq!((dct::number::OK, dct::number::NOT_ENOUGH_DATA, dct::number::MALFORMED_TABLE), (0, 30, 45));
+}
+
+/// Name and letter of each class of the header.
+fn classes() -> Vec<(String, u8)> {
+    let lettered = |line: &str| {
+        let (name, rest) = line.trim().strip_prefix("DCT_CLASS_")?.split_once(" = '")?;
+        Some((name.replace('_', "").to_lowercase(), *rest.as_bytes().first()?))
+    };
+    HEADER.lines().filter_map(lettered).collect()
+}
+
+/// The column of classes of RULES 10.
+fn class_in_the_table(number: u32) -> Option<Class> {
+    match number {
+        10 | 37 => Some(Class::InvalidDatabase),
+        30 => Some(Class::NotEnoughData),
+        39..=45 => Some(Class::Ours),
+        _ if number != dct::number::OK && dct::number::ALL.contains(&number) => Some(Class::BadPayload),
+        _ => None,
+    }
+}
+
+#[test]
+fn classes_of_the_numbers() {
+    let ours = [Class::BadPayload, Class::NotEnoughData, Class::InvalidDatabase, Class::Ours];
+    assert_eq!(classes(), ours.map(|class| (format!("{class:?}").to_lowercase(), class as u8)));
+    let edges = (0..32).flat_map(|bit| [(1u32 << bit) - 1, 1 << bit, (1 << bit) + 10, (1 << bit) + 30]);
+    for number in (0..=1000).chain(edges).chain(u32::MAX - 256..=u32::MAX) {
+        let class = Refusal { number, expected: 0, actual: 0 }.class();
+        assert_eq!(class, class_in_the_table(number), "{number}");
+        // SAFETY: it takes no pointer.
+        assert_eq!(class.map_or(0, |class| class as u32), unsafe { dct::raw::dct_class(number) }, "{number}");
+    }
 }
 
 #[test]

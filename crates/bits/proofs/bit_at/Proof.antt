@@ -1,8 +1,12 @@
 -- `bits::bit_at` meets its contract.
+use mathlib.Core.Path.{_∙_}
 use Rattle.bits.proofs.Stores.{bitAt-code}
 use borrow.Author.Needs.{needs}
 use Rattle.bits.proofs.bit_at.Statement.{statement}
 use Rattle.bits.proofs.bit_at.Tie as tie
+
+byte-from-last-requires : tie.Need-byte-from-last-requires
+byte-from-last-requires c κs = search needs
 
 sub-byte : tie.Need-sub-byte
 sub-byte c = search needs
@@ -10,19 +14,22 @@ sub-byte c = search needs
 sub-byte-2 : tie.Need-sub-byte-2
 sub-byte-2 c = search needs
 
-shared-slice-read-result : tie.Need-shared-slice-read-result
-shared-slice-read-result c = search needs
+shared-slice-read-bit-of : tie.Need-shared-slice-read-bit-of
+shared-slice-read-bit-of c = search needs
 
-cast-result : tie.Need-cast-result
-cast-result c = search needs
-
-shr-result : tie.Need-shr-result
-shr-result c = search needs
+bit-of-requires : tie.Need-bit-of-requires
+bit-of-requires c κs = search needs
 
 returns : tie.Need-returns
-returns c = bitAt-code (c .before .args .«data» .now) (c .before .args .i) (c .before .pre)
+returns c = let s = c .before .before .before .before in c .bit-of .ensures ∙ rw (c .before .before .byte-from-last .ensures) (bitAt-code (s .args .«data» .now) (s .args .i) (s .pre))
 
 pub bit-at-spec : {M : Type 1} → statement M
 bit-at-spec =
     tie.close
-    (tie.spec sub-byte sub-byte-2 shared-slice-read-result cast-result shr-result returns)
+    (tie.spec
+    byte-from-last-requires
+    sub-byte
+    sub-byte-2
+    shared-slice-read-bit-of
+    bit-of-requires
+    returns)

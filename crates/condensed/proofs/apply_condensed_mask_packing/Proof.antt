@@ -20,12 +20,12 @@ Inv-loop «data» mask bit-pos dst-data₀ data-bit-idx₀ mask-bit-idx₀ mask-
 abbrev μ-loop : tie.MeasureT-loop
 μ-loop «data» mask bit-pos dst-data₀ data-bit-idx₀ mask-bit-idx₀ mask-bit-idx-end dst-data data-bit-idx mask-bit-idx = mask-bit-idx-end - mask-bit-idx
 
-mul-mask-bit-idx-end : tie.Need-mul-mask-bit-idx-end Inv-loop μ-loop
-mul-mask-bit-idx-end c = omega arith
+bit-end-requires : tie.Need-bit-end-requires Inv-loop μ-loop
+bit-end-requires c κs = omega arith
 
 loop-holds : tie.Need-loop-holds Inv-loop μ-loop
 unfolding onesBelow
-loop-holds c = let s = c .before .before .before in (omega arith, omega arith, omega arith, refl, injected-none (s .args .bit-pos) (replaced (s .args .mask .now) (s .args .«data» .now)) (s .args .dst-data .now) (λ j. c .slice-known .given j .fits))
+loop-holds c = let s = c .before .before .before .before in (omega arith, omega arith, omega arith, refl, injected-none (s .args .bit-pos) (replaced (s .args .mask .now) (s .args .«data» .now)) (s .args .dst-data .now) (λ j. c .before .slice-known .given j .fits))
 
 bit-at-requires : tie.Need-bit-at-requires Inv-loop μ-loop
 bit-at-requires c κs = omega arith
@@ -40,10 +40,10 @@ set-bit-at-requires : tie.Need-set-bit-at-requires Inv-loop μ-loop
 set-bit-at-requires c κs = omega arith
 
 cast-data-bit-idx : tie.Need-cast-data-bit-idx Inv-loop μ-loop
-cast-data-bit-idx c = omega (arith, bitAt-lt (c .before .before .before .before .before .before .before .before .before .before .before .args .mask .now) (c .before .before .before .before .before .before .before .loop .mask-bit-idx))
+cast-data-bit-idx c = omega (arith, bitAt-lt (c .before .before .before .before .before .before .before .before .before .before .before .before .args .mask .now) (c .before .before .before .before .before .before .before .loop .mask-bit-idx))
 
 add-data-bit-idx : tie.Need-add-data-bit-idx Inv-loop μ-loop
-add-data-bit-idx c = let mask = c .before .before .before .before .before .before .before .before .before .before .before .args .mask .now in
+add-data-bit-idx c = let mask = c .before .before .before .before .before .before .before .before .before .before .before .before .args .mask .now in
     omega (arith, bitAt-lt mask (c .before .before .before .before .before .before .before .loop .mask-bit-idx), onesBelow-le (bitAt mask) (bitAt-lt mask) (c .before .before .before .before .before .before .before .loop .mask-bit-idx))
 
 add-mask-bit-idx : tie.Need-add-mask-bit-idx Inv-loop μ-loop
@@ -54,7 +54,7 @@ loop-less c = omega arith
 
 loop-again : tie.Need-loop-again Inv-loop μ-loop
 loop-again c = let k = c .before .before .before .before .before .before .before in
-    let s = c .before .before .before .before .before .before .before .before .before .before .before in
+    let s = c .before .before .before .before .before .before .before .before .before .before .before .before in
     let mask = s .args .mask .now in
     let i = k .loop .mask-bit-idx in (
       omega arith,
@@ -70,7 +70,7 @@ same-length c = omega arith
 
 returns : tie.Need-returns Inv-loop μ-loop
 returns c = let k = c .before in
-    let s = c .before .before .before .before .before in
+    let s = c .before .before .before .before .before .before in
     k .loop .inv .4 ∙ ap (λ (n : ℕ). injected n (s .args .bit-pos) (replaced (s .args .mask .now) (s .args .«data» .now)) (s .args .dst-data .now)) (omega arith)
 
 pub apply-condensed-mask-packing-spec : {M : Type 1} → statement M
@@ -79,7 +79,7 @@ apply-condensed-mask-packing-spec =
     (tie.spec
     Inv-loop
     μ-loop
-    mul-mask-bit-idx-end
+    bit-end-requires
     loop-holds
     bit-at-requires
     replacement-bit-requires

@@ -29,8 +29,8 @@ byte-count-requires-2 c κs = search needs
 bytes-requires-2 : tie.Need-bytes-requires-2
 bytes-requires-2 c κs = search needs
 
-sub-t10 : tie.Need-sub-t10
-sub-t10 c = search needs
+sub-t9 : tie.Need-sub-t9
+sub-t9 c = search needs
 
 returns : tie.Need-returns
 returns c = let s = c .before .before .before .before .before .before .before .before .before in
@@ -57,6 +57,6 @@ condensed-size-spec =
     count-met-ones-requires
     byte-count-requires-2
     bytes-requires-2
-    sub-t10
+    sub-t9
     returns
     returns-2)

@@ -25,9 +25,6 @@ loop-holds c = omega arith
 shared-slice-read-total : tie.Need-shared-slice-read-total Inv-loop μ-loop
 shared-slice-read-total c = omega arith
 
-cast-total : tie.Need-cast-total Inv-loop μ-loop
-cast-total c = omega (arith, few c)
-
 add-total : tie.Need-add-total Inv-loop μ-loop
 add-total c = omega (arith, few c)
 
@@ -54,7 +51,6 @@ count-mask-ones-spec =
     μ-loop
     loop-holds
     shared-slice-read-total
-    cast-total
     add-total
     add-i
     loop-less

@@ -11,7 +11,7 @@ use Rattle.condensed.proofs.count_met_ones.Statement.{statement}
 use Rattle.condensed.proofs.count_met_ones.Tie as tie
 
 abbrev Inv-loop : tie.InvT-loop
-Inv-loop bit-mask field-bytes count₀ i₀ i-end count i = (i ≤ i-end) × (field-bytes ≡ bytesFor i-end) × (count ≤ i) × (count ≡ onesBelow (frontBit bit-mask field-bytes) i)
+Inv-loop bit-mask field-bytes count₀ i₀ i-end count i = (i ≤ i-end) × (field-bytes .0 ≡ bytesFor i-end) × (count ≤ i) × (count ≡ onesBelow (frontBit bit-mask (field-bytes .0)) i)
 
 abbrev μ-loop : tie.MeasureT-loop
 μ-loop bit-mask field-bytes count₀ i₀ i-end count i = i-end - i
@@ -22,9 +22,6 @@ one c = rw (c .front-bit-at .ensures) (bits-front _ _ _)
 
 byte-count-requires : tie.Need-byte-count-requires Inv-loop μ-loop
 byte-count-requires c κs = search needs
-
-bytes-requires : tie.Need-bytes-requires Inv-loop μ-loop
-bytes-requires c κs = search needs
 
 bits-requires : tie.Need-bits-requires Inv-loop μ-loop
 bits-requires c κs = search needs
@@ -49,17 +46,17 @@ loop-less : tie.Need-loop-less Inv-loop μ-loop
 loop-less c = omega arith
 
 loop-again : tie.Need-loop-again Inv-loop μ-loop
-loop-again c = let s = c .before .before .before .before .before .before .before in (
+loop-again c = let s = c .before .before .before .before .before .before in (
   omega arith,
   omega arith,
   omega (arith, one c),
-  ap₂ (λ (a b : ℕ). a + b) (c .before .before .loop .inv .3) (c .front-bit-at .ensures) ∙ sym (onesBelow-next (frontBit (s .args .bit-mask .now) (c .before .before .before .before .bytes .result)) (c .before .before .loop .i)),
+  ap₂ (λ (a b : ℕ). a + b) (c .before .before .loop .inv .3) (c .front-bit-at .ensures) ∙ sym (onesBelow-next (frontBit (s .args .bit-mask .now) (c .before .before .before .before .byte-count .result .0)) (c .before .before .loop .i)),
 )
 
 returns : tie.Need-returns Inv-loop μ-loop
-returns c = let s = c .before .before .before .before .before .before in
+returns c = let s = c .before .before .before .before .before in
     let all : c .before .loop .i ≡ s .args .bit-len .0 = omega arith in
-    let field : c .before .before .before .bytes .result ≡ bytesFor (s .args .bit-len .0) = omega arith in
+    let field : c .before .before .before .byte-count .result .0 ≡ bytesFor (s .args .bit-len .0) = omega arith in
     c .before .loop .inv .3 ∙ ap₂ (λ (n i : ℕ). onesBelow (frontBit (s .args .bit-mask .now) n) i) field all
 
 pub count-met-ones-spec : {M : Type 1} → statement M
@@ -69,7 +66,6 @@ count-met-ones-spec =
     Inv-loop
     μ-loop
     byte-count-requires
-    bytes-requires
     bits-requires
     loop-holds
     front-bit-at-requires

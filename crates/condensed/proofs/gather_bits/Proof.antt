@@ -17,7 +17,7 @@ use Rattle.condensed.proofs.gather_bits.Tie as tie
 
 abbrev Inv-loop : tie.InvT-loop
 Inv-loop bit-mask «data» byte-order bit-pos result-bytes₀ field-bytes count₀ i₀ i-end result-bytes count i =
-    (i ≤ i-end) × (field-bytes ≡ bytesFor i-end) × Gathering (frontBit bit-mask field-bytes) (from bit-pos (bitAt (ordered byte-order «data»))) (length result-bytes₀) i count result-bytes
+    (i ≤ i-end) × (field-bytes .0 ≡ bytesFor i-end) × Gathering (frontBit bit-mask (field-bytes .0)) (from bit-pos (bitAt (ordered byte-order «data»))) (length result-bytes₀) i (count .0) result-bytes
 
 abbrev μ-loop : tie.MeasureT-loop
 μ-loop bit-mask «data» byte-order bit-pos result-bytes₀ field-bytes count₀ i₀ i-end result-bytes count i = i-end - i
@@ -28,15 +28,12 @@ zero-requires c κs = search needs
 byte-count-requires : tie.Need-byte-count-requires Inv-loop μ-loop
 byte-count-requires c κs = search needs
 
-bytes-requires : tie.Need-bytes-requires Inv-loop μ-loop
-bytes-requires c κs = search needs
-
 bits-requires : tie.Need-bits-requires Inv-loop μ-loop
 bits-requires c κs = search needs
 
 loop-holds : tie.Need-loop-holds Inv-loop μ-loop
 unfolding gathered
-loop-holds c = let z = c .before .before .before .before .before .zero in
+loop-holds c = let z = c .before .before .before .before .zero in
     (omega arith, omega arith, record { len = refl; few = omega arith; many = refl; bits = z .ensures ∙ sym (packed-zero _) ∙ ap (λ (n : ℕ). packed n (λ k. 0)) (sym (z .kept .0)) })
 
 front-bit-at-requires : tie.Need-front-bit-at-requires Inv-loop μ-loop
@@ -59,11 +56,11 @@ loop-less c = omega arith
 
 loop-again : tie.Need-loop-again Inv-loop μ-loop
 loop-again c = let k = c .before .before .before .before .before .before .before in
-    let s = c .before .before .before .before .before .before .before .before .before .before .before .before .before .before .before .before .before .before in
+    let s = c .before .before .before .before .before .before .before .before .before .before .before .before .before .before .before .before .before in
     let g = c .before .before .gather-bit in (
       omega arith,
       omega arith,
-      gathering-more (frontBit (s .args .bit-mask .now) (c .before .before .before .before .before .before .before .before .before .bytes .result)) (from (s .args .bit-pos) (bitAt (ordered (s .args .byte-order) (s .args .«data» .now)))) (λ j. bitAt-lt _ _) _ (k .loop .i) (k .loop .count) (c .before .before .before .before .before .front-bit-at .result) (c .before .before .before .before .ordered-bit-at .result) (g .result) (k .loop .result-bytes) _
+      gathering-more (frontBit (s .args .bit-mask .now) (c .before .before .before .before .before .before .before .before .before .byte-count .result .0)) (from (s .args .bit-pos) (bitAt (ordered (s .args .byte-order) (s .args .«data» .now)))) (λ j. bitAt-lt _ _) _ (k .loop .i) (k .loop .count .0) (c .before .before .before .before .before .front-bit-at .result) (c .before .before .before .before .ordered-bit-at .result) (g .result .0) (k .loop .result-bytes) _
           (c .before .before .before .before .before .front-bit-at .ensures) (c .before .before .before .before .ordered-bit-at .ensures) (g .ensures .0) (g .ensures .1) (omega arith) (k .loop .inv .2),
     )
 
@@ -72,12 +69,12 @@ same-length c = omega arith
 
 returns : tie.Need-returns Inv-loop μ-loop
 returns c = let k = c .before in
-    let s = c .before .before .before .before .before .before .before .before .before .before .before .before in
-    let z = c .before .before .before .before .before .before .before .zero in
+    let s = c .before .before .before .before .before .before .before .before .before .before .before in
+    let z = c .before .before .before .before .before .before .zero in
     let all : k .loop .i ≡ s .args .bit-len .0 = omega arith in
-    let field : c .before .before .before .bytes .result ≡ bytesFor (s .args .bit-len .0) = omega arith in
+    let field : c .before .before .before .byte-count .result .0 ≡ bytesFor (s .args .bit-len .0) = omega arith in
     let g = k .loop .inv .2 in
-    let is : gathered (frontBit (s .args .bit-mask .now) (c .before .before .before .bytes .result)) (from (s .args .bit-pos) (bitAt (ordered (s .args .byte-order) (s .args .«data» .now)))) (k .loop .i) ≡ picked (s .args .bit-mask .now) (s .args .bit-len .0) (from (s .args .bit-pos) (bitAt (ordered (s .args .byte-order) (s .args .«data» .now)))) =
+    let is : gathered (frontBit (s .args .bit-mask .now) (c .before .before .before .byte-count .result .0)) (from (s .args .bit-pos) (bitAt (ordered (s .args .byte-order) (s .args .«data» .now)))) (k .loop .i) ≡ picked (s .args .bit-mask .now) (s .args .bit-len .0) (from (s .args .bit-pos) (bitAt (ordered (s .args .byte-order) (s .args .«data» .now)))) =
     ap₂ (λ (n i : ℕ). gathered (frontBit (s .args .bit-mask .now) n) (from (s .args .bit-pos) (bitAt (ordered (s .args .byte-order) (s .args .«data» .now)))) i) field all in
     (g .many ∙ ap length is, g .bits ∙ ap₂ (λ (n : ℕ) (l : List ℕ). packed n (bitsOf l)) (z .kept .0) is)
 
@@ -89,7 +86,6 @@ gather-bits-spec =
     μ-loop
     zero-requires
     byte-count-requires
-    bytes-requires
     bits-requires
     loop-holds
     front-bit-at-requires

@@ -14,7 +14,7 @@ part-start-requires : tie.Need-part-start-requires
 part-start-requires c κs = search needs
 
 returns : tie.Need-returns
-returns c = ap₂ answer refl (c .part-start .ensures) ∙ ap (startAnswer (c .before .before .before .before .before .before .before .args .byte-pos)) (c .before .decode-with-runtime-byte-length-by-record .ensures)
+returns c = ap₂ answer refl (c .part-start .ensures) ∙ ap (startAnswer (c .before .before .before .before .before .before .before .args .byte-pos)) (c .before .decode-with-runtime-byte-length-by-record .ensures .0)
 
 pub dct-read-spec : {M : Type 1} → statement M
 dct-read-spec =

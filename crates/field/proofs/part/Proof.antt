@@ -4,14 +4,15 @@ use Prim.Native.Nat.{_+_, _≤_}
 use lib.ListN.{length}
 use native.Mathlib.Nat.{add-sub-cancel-left}
 use native.Mathlib.Omega.{arith}
+use Rattle.kinds.proofs.Cuts.{behind-none}
 use borrow.Author.Tests.{ltb-false}
 use borrow.Author.Needs.{needs}
 use Rattle.field.proofs.part.Statement.{statement}
 use Rattle.field.proofs.part.Tie as tie
 
 -- the part ends within the store
-inside : (c : tie.After-struct-known) → c .before .before .before .before .args .place .at + c .before .before .before .before .args .place .len ≤ length (c .before .before .before .before .args .store .now)
-inside c = ltb-false _ _ (sym (c .before .before .is-outside .ensures) ∙ c .before .if1 .left)
+inside : (c : tie.After-bytes) → let s = c .before .before .before .before .args in s .place .at + c .bytes .result ≤ length (s .store .now)
+inside c = rw (c .bytes .ensures) (ltb-false _ _ (sym (c .before .before .is-outside .ensures) ∙ c .before .if1 .left))
 
 is-outside-requires : tie.Need-is-outside-requires
 is-outside-requires c κs = search needs
@@ -20,7 +21,13 @@ slice-aggregate-result : tie.Need-slice-aggregate-result
 slice-aggregate-result c = search needs
 
 returns : tie.Need-returns
-returns c = rw (sym (c .before .before .is-outside .ensures), c .before .if1 .taken)
+returns c = (
+  rw (sym (c .before .before .is-outside .ensures), c .before .if1 .taken),
+  rw (sym (c .before .before .is-outside .ensures), c .before .if1 .taken) (behind-none _),
+)
+
+bytes-requires : tie.Need-bytes-requires
+bytes-requires c κs = search needs
 
 add-end : tie.Need-add-end
 add-end c = let i = inside c in omega arith
@@ -35,7 +42,10 @@ part-result-end : tie.Need-part-result-end
 part-result-end c = inside c
 
 returns-2 : tie.Need-returns-2
-returns-2 c = rw (sym (c .before .before .before .is-outside .ensures), c .before .before .if1 .left) (simp add-sub-cancel-left)
+returns-2 c = (
+  rw (sym (c .before .before .before .is-outside .ensures), c .before .before .if1 .left, c .before .bytes .ensures) (simp add-sub-cancel-left),
+  rw (sym (c .before .before .before .is-outside .ensures), c .before .before .if1 .left),
+)
 
 pub part-spec : {M : Type 1} → statement M
 part-spec =
@@ -44,6 +54,7 @@ part-spec =
     is-outside-requires
     slice-aggregate-result
     returns
+    bytes-requires
     add-end
     sub-result
     part-result-start

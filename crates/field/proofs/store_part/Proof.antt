@@ -12,7 +12,7 @@ part-at-requires : tie.Need-part-at-requires
 part-at-requires c κs = search needs
 
 returns : tie.Need-returns
-returns c = c .part-at .ensures ∙ ap (partAt (c .before .before .before .args .store .now)) (c .before .store-place .ensures)
+returns c = c .part-at .ensures .0 ∙ ap (partAt (c .before .before .before .args .store .now)) (c .before .store-place .ensures)
 
 pub store-part-spec : {M : Type 1} → statement M
 store-part-spec = tie.close (tie.spec store-place-requires part-at-requires returns)

@@ -22,11 +22,11 @@ validate-requires : tie.Need-validate-requires
 validate-requires c κs = search needs
 
 returns : tie.Need-returns
-returns c = let place = c .before .before .before .validate-place .ensures ∙ ap (λ (p : OptionalPlace). placeRefusal p (c .before .before .before .before .before .args .store-len)) (c .before .before .before .before .store-place .ensures) in
+returns c = let place = c .before .before .before .validate-place .ensures ∙ ap (λ (p : OptionalPlace). placeRefusal p (c .before .before .before .before .before .args .store-len .0)) (c .before .before .before .before .store-place .ensures) in
     rw (sym place, c .before .refusal .given .1)
 
 returns-2 : tie.Need-returns-2
-returns-2 c = let place = c .before .before .before .validate-place .ensures ∙ ap (λ (p : OptionalPlace). placeRefusal p (c .before .before .before .before .before .args .store-len)) (c .before .before .before .before .store-place .ensures) in
+returns-2 c = let place = c .before .before .before .validate-place .ensures ∙ ap (λ (p : OptionalPlace). placeRefusal p (c .before .before .before .before .before .args .store-len .0)) (c .before .before .before .before .store-place .ensures) in
     rw (sym place, c .before .enum-told .given .1) (c .validate .ensures)
 
 pub validate-description-spec : {M : Type 1} → statement M

@@ -30,19 +30,23 @@ returns c = rw (sym (c .before .bits .ensures), le-ltb (c .before .bits .result)
 returns-2 : tie.Need-returns-2
 returns-2 c = rw (sym (c .before .before .bits .ensures), c .if2 .taken)
 
+bytes-requires : tie.Need-bytes-requires
+bytes-requires c κs = search needs
+
 shr-if3 : tie.Need-shr-if3
 shr-if3 c = search needs
 
 returns-3 : tie.Need-returns-3
-returns-3 c = rw (sym (c .before .before .before .bits .ensures), lt-ltb (c .before .before .before .bits .result) 64 (omega arith), le-leb _ _ (too-large _ _ (c .if3 .taken)))
+returns-3 c = rw (sym (c .before .bytes .ensures), sym (c .before .before .before .before .bits .ensures), lt-ltb (c .before .before .before .before .bits .result) 64 (omega arith), le-leb _ _ (too-large _ _ (c .if3 .taken)))
 
 returns-4 : tie.Need-returns-4
-returns-4 c = let none : c .before .before .before .before .before .args .data-len ≡ 0 = let f = rw (c .if4 .taken) at (fits _ _ (c .before .if3 .left)) in omega arith in
-    rw (sym (c .before .before .before .before .bits .ensures), c .if4 .taken, none)
+returns-4 c = let none : c .before .before .bytes .result ≡ 0 = let f = rw (c .if4 .taken) at (fits _ _ (c .before .if3 .left)) in omega arith in
+    rw (sym (c .before .before .bytes .ensures), sym (c .before .before .before .before .before .bits .ensures), c .if4 .taken, none)
 
 returns-5 : tie.Need-returns-5
-returns-5 c = rw (sym (c .before .before .before .before .bits .ensures), lt-ltb (c .before .before .before .before .bits .result) 64 (omega arith), lt-leb _ _ (fits _ _ (c .before .if3 .left)), le-ltb 64 (c .before .before .before .before .bits .result) (omega arith), ne-eqb _ 0 (c .if4 .left))
+returns-5 c = rw (sym (c .before .before .bytes .ensures), sym (c .before .before .before .before .before .bits .ensures), lt-ltb (c .before .before .before .before .before .bits .result) 64 (omega arith), lt-leb _ _ (fits _ _ (c .before .if3 .left)), le-ltb 64 (c .before .before .before .before .before .bits .result) (omega arith), ne-eqb _ 0 (c .if4 .left))
 
 pub validate-leading-length-spec : {M : Type 1} → statement M
 validate-leading-length-spec =
-    tie.close (tie.spec bits-requires returns returns-2 shr-if3 returns-3 returns-4 returns-5)
+    tie.close
+    (tie.spec bits-requires returns returns-2 bytes-requires shr-if3 returns-3 returns-4 returns-5)

@@ -10,7 +10,7 @@ bit-length-requires : tie.Need-bit-length-requires
 bit-length-requires c κs = search needs
 
 returns : tie.Need-returns
-returns c = let s = c .before in ap (λ (n : ℕ). framing n (s .args .head) (s .args .data-len) (s .args .tail) (s .args .tail-len)) (c .bit-length .ensures)
+returns c = let s = c .before in ap (λ (n : ℕ). framing n (s .args .head) (s .args .data-len .0) (s .args .tail) (s .args .tail-len .0)) (c .bit-length .ensures)
 
 pub frame-spec : {M : Type 1} → statement M
 frame-spec = tie.close (tie.spec bit-length-requires returns)

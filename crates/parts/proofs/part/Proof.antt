@@ -1,10 +1,11 @@
 -- `parts::part` meets its contract.
-use Rattle.parts.proofs.HandedBack.{part-none, part-short, part-there}
+use Rattle.parts.proofs.HandedBack.{lies-there, part-none, part-short, part-there}
 use Rattle.kinds.specs.Slices.{saturatingSum}
 use native.Mathlib.Omega.{arith}
 use lib.ListN.{length}
 use Prim.Native.Nat.{_-_, _≤_}
 use mathlib.Core.Path.{_≡_, sym, ap, _∙_}
+use Rattle.kinds.proofs.Cuts.{behind-none}
 use borrow.Author.Needs.{needs}
 use Rattle.parts.proofs.part.Statement.{statement}
 use Rattle.parts.proofs.part.Tie as tie
@@ -17,7 +18,7 @@ slice-aggregate-result c = search needs
 
 returns : tie.Need-returns
 returns c = let s = c .before .before .before .before .before .args in
-    part-none (s .uds-payload .now) (s .byte-pos) (s .byte-count .0) (sym (c .before .before .before .bytes .ensures) ∙ c .before .before .if1 .taken)
+    (part-none (s .uds-payload .now) (s .byte-pos) (s .byte-count .0) (sym (c .before .before .before .bytes .ensures) ∙ c .before .before .if1 .taken), behind-none (s .uds-payload .ptr))
 
 saturating-add-requires : tie.Need-saturating-add-requires
 saturating-add-requires c κs = search needs
@@ -27,7 +28,7 @@ slice-aggregate-result-2 c = search needs
 
 returns-2 : tie.Need-returns-2
 returns-2 c = let s = c .before .before .before .before .before .before .before .args in
-    part-short (s .uds-payload .now) (s .byte-pos) (s .byte-count .0) (λ (e : s .byte-count .0 ≡ 0). c .before .before .before .before .if1 .left (c .before .before .before .before .before .bytes .ensures ∙ e)) (c .before .before .before .saturating-add .ensures ∙ ap (saturatingSum (s .byte-pos)) (c .before .before .before .before .before .bytes .ensures)) (c .before .before .if2 .taken)
+    (part-short (s .uds-payload .now) (s .byte-pos) (s .byte-count .0) (λ (e : s .byte-count .0 ≡ 0). c .before .before .before .before .if1 .left (c .before .before .before .before .before .bytes .ensures ∙ e)) (c .before .before .before .saturating-add .ensures ∙ ap (saturatingSum (s .byte-pos)) (c .before .before .before .before .before .bytes .ensures)) (c .before .before .if2 .taken), behind-none (s .uds-payload .ptr))
 
 bit-length-requires : tie.Need-bit-length-requires
 bit-length-requires c κs = search needs
@@ -51,7 +52,7 @@ returns-3 c = let s = c .before .before .before .before .before .before .before 
     let end : c .before .before .before .before .before .saturating-add .result ≡ saturatingSum (s .args .byte-pos) n = c .before .before .before .before .before .saturating-add .ensures ∙ ap (saturatingSum (s .args .byte-pos)) size in
     let inside : saturatingSum (s .args .byte-pos) n ≤ length (s .args .uds-payload .now) = omega (arith, end, c .before .before .before .before .if2 .left) in
     let rest : c .before .before .before .before .before .saturating-add .result - s .args .byte-pos ≡ n = omega (arith, end, s .pre, inside) in
-    part-there (s .args .uds-payload .now) (s .args .byte-pos) n (λ (e : n ≡ 0). c .before .before .before .before .before .before .if1 .left (size ∙ e)) (s .pre) inside (c .before .before .bits .ensures ∙ c .before .before .before .bit-length .ensures) size rest
+    (part-there (s .args .uds-payload .now) (s .args .byte-pos) n (λ (e : n ≡ 0). c .before .before .before .before .before .before .if1 .left (size ∙ e)) (s .pre) inside (c .before .before .bits .ensures ∙ c .before .before .before .bit-length .ensures) size rest, lies-there (s .args .uds-payload .now) (s .args .byte-pos) n (λ (e : n ≡ 0). c .before .before .before .before .before .before .if1 .left (size ∙ e)) (s .pre) inside rest (s .args .uds-payload .ptr))
 
 pub part-spec : {M : Type 1} → statement M
 part-spec =

@@ -9,6 +9,9 @@ type-code-requires c κs = search needs
 enum-known-type- : tie.Need-enum-known-type-
 enum-known-type- c = search needs
 
+number-requires : tie.Need-number-requires
+number-requires c κs = search needs
+
 plain-numbers-requires : tie.Need-plain-numbers-requires
 plain-numbers-requires c κs = search needs
 
@@ -31,7 +34,7 @@ plain-numbers-requires-2 : tie.Need-plain-numbers-requires-2
 plain-numbers-requires-2 c κs = search needs
 
 returns : tie.Need-returns
-returns c = rw (c .plain-numbers .ensures, c .before .before .type- .given .1, c .before .before .before .before .type-code .ensures)
+returns c = rw (c .plain-numbers .ensures, c .before .number .ensures, c .before .before .before .type- .given .1, c .before .before .before .before .before .type-code .ensures)
 
 returns-2 : tie.Need-returns-2
 returns-2 c = rw (c .min-max-numbers .ensures, c .before .before .type-2 .given .1, c .before .before .before .before .type-code .ensures)
@@ -48,6 +51,7 @@ numbers-for-spec =
     (tie.spec
     type-code-requires
     enum-known-type-
+    number-requires
     plain-numbers-requires
     enum-known-type--2
     min-max-numbers-requires

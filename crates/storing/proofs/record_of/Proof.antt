@@ -34,22 +34,25 @@ module _ {n : Numbers} (t : DiagCodedType) where
     unfolding storedRecord
     past-at h = rw (sym e, lt-ltb _ _ h)
 
-    past-len : n .place .at ≤ 65535 → 65535 < n .place .len → answer (refused MalformedRecord) old ≡ storedRecord t old
+    past-len : n .place .at ≤ 65535 → 65535 < n .place .len .0 → answer (refused MalformedRecord) old ≡ storedRecord t old
     unfolding storedRecord
     past-len a h = rw (sym e, le-ltb _ _ a, lt-ltb _ _ h)
 
-    written : n .place .at ≤ 65535 → n .place .len ≤ 65535 → answer wrote (bytesOf n) ≡ storedRecord t old
+    written : n .place .at ≤ 65535 → n .place .len .0 ≤ 65535 → answer wrote (bytesOf n) ≡ storedRecord t old
     unfolding storedRecord
     written a h = rw (sym e, le-ltb _ _ a, le-ltb _ _ h)
 
 numbers-for-requires : tie.Need-numbers-for-requires
 numbers-for-requires c κs = search needs
 
+bytes-requires : tie.Need-bytes-requires
+bytes-requires c κs = search needs
+
 returns : tie.Need-returns
-returns c = past-at (c .before .before .before .args .coded-type) _ (c .before .before .numbers-for .ensures) (c .if1 .taken)
+returns c = past-at (c .before .before .before .before .args .coded-type) _ (c .before .before .before .numbers-for .ensures) (c .if1 .taken)
 
 returns-2 : tie.Need-returns-2
-returns-2 c = past-len (c .before .before .before .before .before .args .coded-type) _ (c .before .before .before .before .numbers-for .ensures) (c .before .before .if1 .left) (c .if2 .taken)
+returns-2 c = past-len (c .before .before .before .before .before .args .coded-type) _ (c .before .before .before .before .numbers-for .ensures) (c .before .if1 .left) (omega arith)
 
 flags-byte-requires : tie.Need-flags-byte-requires
 flags-byte-requires c κs = few-flags (c .before .before .before .before .before .args .coded-type) (c .before .before .before .before .numbers-for .ensures)
@@ -110,10 +113,11 @@ returns-3 c =
     let c3 = c4 .before in
     let c2 = c3 .before in
     let c1 = c2 .before in
-    let flagged = c1 .before .before .before in
+    let flagged = c1 .before .before in
     let len = flagged .before in
-    let at = len .before .before in
-    let read = at .before .before in
+    let at = len .before in
+    let taken = at .before .before in
+    let read = taken .before in
     rw (
       c12 .digit12 .ensures,
       c11 .digit11 .ensures,
@@ -128,14 +132,16 @@ returns-3 c =
       c2 .digit2 .ensures,
       c1 .digit .ensures,
       flagged .flags-byte .ensures,
+      taken .bytes .ensures,
     )
-    (written (read .before .args .coded-type) _ (read .numbers-for .ensures) (at .if1 .left) (len .if2 .left))
+    (written (read .before .args .coded-type) _ (read .numbers-for .ensures) (at .if1 .left) (omega arith))
 
 pub record-of-spec : {M : Type 1} → statement M
 record-of-spec =
     tie.close
     (tie.spec
     numbers-for-requires
+    bytes-requires
     returns
     returns-2
     flags-byte-requires

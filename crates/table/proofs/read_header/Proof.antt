@@ -23,14 +23,17 @@ cast-count c = search needs
 read16-requires-2 : tie.Need-read16-requires-2
 read16-requires-2 c κs = search needs
 
-cast-store-len : tie.Need-cast-store-len
-cast-store-len c = search needs
+cast-total : tie.Need-cast-total
+cast-total c = search needs
+
+bytes-requires : tie.Need-bytes-requires
+bytes-requires c κs = search needs
 
 returns-3 : tie.Need-returns-3
-returns-3 c = simp (le-ltb _ _ (c .before .before .before .before .before .if1 .left), sym (c .before .before .before .before .is-marked .ensures) ∙ not-false _ (c .before .before .before .if2 .left), ← (c .before .before .read16 .ensures .0), lt-ltb _ _ (c .if3 .taken))
+returns-3 c = simp (le-ltb _ _ (c .before .before .before .before .before .before .if1 .left), sym (c .before .before .before .before .before .is-marked .ensures) ∙ not-false _ (c .before .before .before .before .if2 .left), ← (c .before .before .before .read16 .ensures .0), lt-ltb _ _ (c .if3 .taken))
 
 returns-4 : tie.Need-returns-4
-returns-4 c = simp (le-ltb _ _ (c .before .before .before .before .before .before .if1 .left), sym (c .before .before .before .before .before .is-marked .ensures) ∙ not-false _ (c .before .before .before .before .if2 .left), ← (c .before .before .before .read16 .ensures .0), le-ltb _ _ (c .before .if3 .left), ← (c .before .before .read162 .ensures .0), lt-ltb _ _ (c .if4 .taken))
+returns-4 c = simp (le-ltb _ _ (c .before .before .before .before .before .before .before .if1 .left), sym (c .before .before .before .before .before .before .is-marked .ensures) ∙ not-false _ (c .before .before .before .before .before .if2 .left), ← (c .before .before .before .before .read16 .ensures .0), le-ltb _ _ (c .before .if3 .left), ← (c .before .before .before .read162 .ensures .0), ← (c .before .before .bytes .ensures), lt-ltb _ _ (c .if4 .taken))
 
 record-place-requires : tie.Need-record-place-requires
 record-place-requires c κs = search needs
@@ -39,10 +42,10 @@ add-total : tie.Need-add-total
 add-total c = search needs
 
 returns-5 : tie.Need-returns-5
-returns-5 c = simp (le-ltb _ _ (c .before .before .before .before .before .before .before .before .if1 .left), sym (c .before .before .before .before .before .before .before .is-marked .ensures) ∙ not-false _ (c .before .before .before .before .before .before .if2 .left), ← (c .before .before .before .before .before .read16 .ensures .0), le-ltb _ _ (c .before .before .before .if3 .left), ← (c .before .before .before .before .read162 .ensures .0), le-ltb _ _ (c .before .before .if4 .left), ← (c .before .record-place .ensures), ne-eqb _ _ (c .if5 .taken))
+returns-5 c = simp (le-ltb _ _ (c .before .before .before .before .before .before .before .before .before .if1 .left), sym (c .before .before .before .before .before .before .before .before .is-marked .ensures) ∙ not-false _ (c .before .before .before .before .before .before .before .if2 .left), ← (c .before .before .before .before .before .before .read16 .ensures .0), le-ltb _ _ (c .before .before .before .if3 .left), ← (c .before .before .before .before .before .read162 .ensures .0), ← (c .before .before .before .before .bytes .ensures), le-ltb _ _ (c .before .before .if4 .left), ← (c .before .record-place .ensures), ne-eqb _ _ (c .if5 .taken))
 
 returns-6 : tie.Need-returns-6
-returns-6 c = simp (le-ltb _ _ (c .before .before .before .before .before .before .before .before .if1 .left), sym (c .before .before .before .before .before .before .before .is-marked .ensures) ∙ not-false _ (c .before .before .before .before .before .before .if2 .left), ← (c .before .before .before .before .before .read16 .ensures .0), le-ltb _ _ (c .before .before .before .if3 .left), ← (c .before .before .before .before .read162 .ensures .0), le-ltb _ _ (c .before .before .if4 .left), ← (c .before .record-place .ensures), eq-eqb _ _ (c .if5 .left))
+returns-6 c = simp (le-ltb _ _ (c .before .before .before .before .before .before .before .before .before .if1 .left), sym (c .before .before .before .before .before .before .before .before .is-marked .ensures) ∙ not-false _ (c .before .before .before .before .before .before .before .if2 .left), ← (c .before .before .before .before .before .before .read16 .ensures .0), le-ltb _ _ (c .before .before .before .if3 .left), ← (c .before .before .before .before .before .read162 .ensures .0), ← (c .before .before .before .before .bytes .ensures), le-ltb _ _ (c .before .before .if4 .left), ← (c .before .record-place .ensures), eq-eqb _ _ (c .if5 .left))
 
 pub read-header-spec : {M : Type 1} → statement M
 read-header-spec =
@@ -54,7 +57,8 @@ read-header-spec =
     read16-requires
     cast-count
     read16-requires-2
-    cast-store-len
+    cast-total
+    bytes-requires
     returns-3
     returns-4
     record-place-requires

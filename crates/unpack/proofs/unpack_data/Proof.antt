@@ -15,16 +15,16 @@ use Rattle.unpack.proofs.unpack_data.Statement.{statement}
 use Rattle.unpack.proofs.unpack_data.Tie as tie
 
 -- neither 26 nor 27
-passed : (c : tie.Else2) → let s = c .before .before .before .before .before .before .args in
+passed : (c : tie.Else2) → let s = c .before .before .before .before .before .before .before .args in
     unpackRefusal (s .bit-len .0) (s .bit-pos) (length (ordered (s .byte-order) (s .«data» .now))) ≡ Passed
-passed c = rw length-ordered (fits _ _ _ (c .before .before .if1 .left) (omega arith))
+passed c = rw length-ordered (fits _ _ _ (c .before .before .before .if1 .left) (omega arith))
 
 returns : tie.Need-returns
 unfolding readAnswer
 returns c = rw (lt-ltb _ _ (c .if1 .taken))
 
-mul-if2 : tie.Need-mul-if2
-mul-if2 c = search needs
+bit-end-requires : tie.Need-bit-end-requires
+bit-end-requires c κs = search needs
 
 bits-requires : tie.Need-bits-requires
 bits-requires c κs = search needs
@@ -34,9 +34,9 @@ add-if2 c = search needs
 
 returns-2 : tie.Need-returns-2
 unfolding readAnswer
-returns-2 c = let s = c .before .before .before .before .before .before .args in
+returns-2 c = let s = c .before .before .before .before .before .before .before .args in
     let past : 8 * length (ordered (s .byte-order) (s .«data» .now)) < s .bit-pos + s .bit-len .0 = omega (arith, length-ordered (s .byte-order) (s .«data» .now)) in
-    rw (le-ltb _ _ (c .before .before .if1 .left), lt-ltb _ _ past)
+    rw (le-ltb _ _ (c .before .before .before .if1 .left), lt-ltb _ _ past)
 
 enum-told : tie.Need-enum-told
 enum-told c = search needs
@@ -79,7 +79,7 @@ unpack-data-spec =
     tie.close
     (tie.spec
     returns
-    mul-if2
+    bit-end-requires
     bits-requires
     add-if2
     returns-2

@@ -1,5 +1,6 @@
 -- `calls::decode_with_runtime_byte_length` meets its contract.
 use Rattle.calls.specs.Calls.{runtimeRead}
+use Rattle.parts.proofs.HandedBack.{refused-lies}
 use Rattle.field.proofs.Slices.{slices-fit}
 use lib.ListN.{length}
 use mathlib.Core.Path.{sym, _∙_}
@@ -26,11 +27,14 @@ part-described-requires c κs = let s = c .before .before .before .before .befor
 
 returns : tie.Need-returns
 unfolding runtimeRead
-returns c = c .no-part .ensures ∙ rw (sym (c .before .before .before .before .before .before .validate-slices .ensures), c .before .before .before .before .refusal .given .1)
+returns c = let s = c .before .before .before .before .before .before .before .before .before .args in (
+  c .no-part .ensures .0 ∙ rw (sym (c .before .before .before .before .before .before .validate-slices .ensures), c .before .before .before .before .refusal .given .1),
+  refused-lies (s .byte-pos) (s .uds-payload .ptr) (c .no-part .ensures .0) (c .no-part .ensures .1),
+)
 
 returns-2 : tie.Need-returns-2
 unfolding runtimeRead
-returns-2 c = rw (sym (c .before .before .before .before .before .validate-slices .ensures), c .before .before .before .enum-told .given .1) (c .part-described .ensures)
+returns-2 c = (rw (sym (c .before .before .before .before .before .validate-slices .ensures), c .before .before .before .enum-told .given .1) (c .part-described .ensures .0), c .part-described .ensures .1)
 
 pub decode-with-runtime-byte-length-spec : {M : Type 1} → statement M
 decode-with-runtime-byte-length-spec =

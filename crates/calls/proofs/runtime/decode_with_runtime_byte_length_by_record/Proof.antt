@@ -1,5 +1,6 @@
 -- `calls::decode_with_runtime_byte_length_by_record` meets its contract.
 use Rattle.calls.proofs.Ways.{led, recorded-fit}
+use Rattle.parts.proofs.HandedBack.{refused-lies}
 use Rattle.parts.specs.Part.{partAnswer}
 use Rattle.calls.specs.Calls.{runtimeRead}
 use mathlib.Core.Path.{_∙_}
@@ -29,11 +30,14 @@ part-described-requires c κs = let s = c .before .before .before .before .befor
 
 returns : tie.Need-returns
 unfolding runtimeRead
-returns c = c .no-part .ensures ∙ led partAnswer _ (rw (c .before .before .before .before .refusal .given .1) at (c .before .before .before .before .before .before .coded-by-record .ensures))
+returns c = let s = c .before .before .before .before .before .before .before .before .before .before .args in (
+  c .no-part .ensures .0 ∙ led partAnswer _ (rw (c .before .before .before .before .refusal .given .1) at (c .before .before .before .before .before .before .coded-by-record .ensures)),
+  refused-lies (s .byte-pos) (s .uds-payload .ptr) (c .no-part .ensures .0) (c .no-part .ensures .1),
+)
 
 returns-2 : tie.Need-returns-2
 unfolding runtimeRead
-returns-2 c = c .part-described .ensures ∙ led partAnswer _ (rw (c .before .before .before .before .coded-type .given .1) at (c .before .before .before .before .before .before .coded-by-record .ensures))
+returns-2 c = (c .part-described .ensures .0 ∙ led partAnswer _ (rw (c .before .before .before .before .coded-type .given .1) at (c .before .before .before .before .before .before .coded-by-record .ensures)), c .part-described .ensures .1)
 
 pub decode-with-runtime-byte-length-by-record-spec : {M : Type 1} → statement M
 decode-with-runtime-byte-length-by-record-spec =

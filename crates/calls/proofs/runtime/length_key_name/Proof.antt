@@ -1,6 +1,10 @@
 -- `calls::length_key_name` meets its contract.
-use Rattle.calls.specs.Calls.{keyName}
-use Rattle.field.specs.Field.{partAt}
+use Rattle.calls.specs.Calls.{keyName, nameStart}
+use Rattle.field.specs.Field.{partAt, startAt}
+use Rattle.coded.specs.declared.variants.OptionalPlace.{OptionalPlace}
+use Rattle.kinds.specs.Slices.{behind}
+use Rattle.kinds.proofs.Cuts.{behind-none}
+use lib.ListN.{length}
 use Rattle.kinds.specs.Outcomes.{answer}
 use Rattle.kinds.specs.Answers.{wrote}
 use mathlib.Core.Path.{sym, ap, _∙_}
@@ -21,8 +25,11 @@ slice-aggregate-result : tie.Need-slice-aggregate-result
 slice-aggregate-result c = search needs
 
 returns : tie.Need-returns
-unfolding keyName
-returns c = rw (sym (c .before .before .before .before .before .validate-slices .ensures), c .before .before .before .refusal .given .1, c .before .number .ensures)
+unfolding keyName nameStart
+returns c = (
+  rw (sym (c .before .before .before .before .before .validate-slices .ensures), c .before .before .before .refusal .given .1, c .before .number .ensures),
+  rw (sym (c .before .before .before .before .before .validate-slices .ensures), c .before .before .before .refusal .given .1) (behind-none _),
+)
 
 enum-told : tie.Need-enum-told
 enum-told c = search needs
@@ -49,13 +56,21 @@ part-at-requires : tie.Need-part-at-requires
 part-at-requires c κs = search needs
 
 returns-2 : tie.Need-returns-2
-unfolding keyName
-returns-2 c = rw (sym (c .before .before .before .before .before .before .before .before .validate-slices .ensures), c .before .before .before .before .before .before .enum-told .given .1, sym (c .before .before .before .before .before .validate-description .ensures), c .before .before .before .refusal2 .given .1, c .before .number2 .ensures)
+unfolding keyName nameStart
+returns-2 c = (
+  rw (sym (c .before .before .before .before .before .before .before .before .validate-slices .ensures), c .before .before .before .before .before .before .enum-told .given .1, sym (c .before .before .before .before .before .validate-description .ensures), c .before .before .before .refusal2 .given .1, c .before .number2 .ensures),
+  rw (sym (c .before .before .before .before .before .before .before .before .validate-slices .ensures), c .before .before .before .before .before .before .enum-told .given .1, sym (c .before .before .before .before .before .validate-description .ensures), c .before .before .before .refusal2 .given .1) (behind-none _),
+)
 
 returns-3 : tie.Need-returns-3
-unfolding keyName
-returns-3 c = rw (sym (c .before .before .before .before .before .before .before .validate-slices .ensures), c .before .before .before .before .before .enum-told .given .1, sym (c .before .before .before .before .validate-description .ensures), c .before .before .enum-told2 .given .1)
-    (ap (answer wrote) (c .part-at .ensures ∙ ap (partAt (c .before .before .before .before .before .before .before .before .before .args .store .now)) (c .before .length-key-place .ensures)))
+unfolding keyName nameStart
+returns-3 c = let store = c .before .before .before .before .before .before .before .before .before .args .store .now in
+    let place = c .before .length-key-place .ensures in (
+      rw (sym (c .before .before .before .before .before .before .before .validate-slices .ensures), c .before .before .before .before .before .enum-told .given .1, sym (c .before .before .before .before .validate-description .ensures), c .before .before .enum-told2 .given .1)
+          (ap (answer wrote) (c .part-at .ensures .0 ∙ ap (partAt store) place)),
+      rw (sym (c .before .before .before .before .before .before .before .validate-slices .ensures), c .before .before .before .before .before .enum-told .given .1, sym (c .before .before .before .before .validate-description .ensures), c .before .before .enum-told2 .given .1)
+          (c .part-at .ensures .1 ∙ ap (λ (p : OptionalPlace). behind (startAt (length store) p) (c .before .before .before .before .before .before .before .before .before .args .store .ptr)) place),
+    )
 
 pub length-key-name-spec : {M : Type 1} → statement M
 length-key-name-spec =

@@ -1,5 +1,5 @@
 -- `length_field::behind_length_field` meets its contract.
-use Prim.Native.Nat.{ℕ, _%_, _^_, _≤_}
+use Prim.Native.Nat.{ℕ, _*_, _≤_}
 use mathlib.Core.Path.{_≡_, sym, ap, _∙_}
 use native.Mathlib.Omega.{arith}
 use Rattle.length_field.specs.Leading.{leadingCount}
@@ -16,10 +16,10 @@ inside c = omega arith
 abbrev entry : tie.After-saturating-add2 → tie.Start
 entry c = c .before .before .before .before .before .before .before .before .before .before .before .before .before
 
-count : (c : tie.After-saturating-add2) → (entry c .args .bits .0 ≤ 64) × (c .before .lowest-bits .result ≡ leadingCount (entry c .args .byte-order) (entry c .args .bits .0) (entry c .args .uds-payload .now) (entry c .args .byte-pos))
+count : (c : tie.After-saturating-add2) → (entry c .args .bits .0 ≤ 64) × (c .before .bytes2 .result ≡ leadingCount (entry c .args .byte-order) (entry c .args .bits .0) (entry c .args .uds-payload .now) (entry c .args .byte-pos))
 count c = let n = c .before .before .before .before .number .given in
-    counted (entry c .args .byte-order) (inside (c .before .before .before .before .before .before .before .before)) (λ j. c .before .before .before .before .before .before .before .before .before .before .before .before .shared-slice-known .given j .fits) (n .0 .0) (c .before .lowest-bits .result)
-    (sym (c .before .before .before .before .before .before .usize-from-bytes .ensures) ∙ n .1) (c .before .lowest-bits .ensures ∙ ap (λ (k : ℕ). k % 2 ^ (entry c .args .bits .0)) (c .before .before .bytes2 .ensures))
+    counted (entry c .args .byte-order) (inside (c .before .before .before .before .before .before .before .before)) (λ j. c .before .before .before .before .before .before .before .before .before .before .before .before .shared-slice-known .given j .fits) (n .0 .0) (c .before .bytes2 .result)
+    (sym (c .before .before .before .before .before .before .usize-from-bytes .ensures) ∙ n .1) (c .before .bytes2 .ensures ∙ c .before .before .lowest-bits .ensures)
 
 byte-count-requires : tie.Need-byte-count-requires
 byte-count-requires c κs = search needs
@@ -51,11 +51,11 @@ enum-told c = search needs
 enum-known-number : tie.Need-enum-known-number
 enum-known-number c = search needs
 
-bytes-requires-2 : tie.Need-bytes-requires-2
-bytes-requires-2 c κs = search needs
-
 lowest-bits-requires : tie.Need-lowest-bits-requires
 lowest-bits-requires c κs = search needs
+
+bytes-requires-2 : tie.Need-bytes-requires-2
+bytes-requires-2 c κs = search needs
 
 saturating-add-requires-2 : tie.Need-saturating-add-requires-2
 saturating-add-requires-2 c κs = search needs
@@ -70,7 +70,7 @@ returns-3 : tie.Need-returns-3
 returns-3 c = too-wide _ (inside (c .before .before .before .before)) (sym (c .before .before .usize-from-bytes .ensures) ∙ c .enum-told .given .1)
 
 returns-4 : tie.Need-returns-4
-returns-4 c = enough _ (inside (c .before .before .before .before .before .before .before .before .before .before)) (count (c .before .before)) (c .before .before .saturating-add2 .ensures) (c .before .if2 .left) (c .bit-length .ensures)
+returns-4 c = enough _ (inside (c .before .before .before .before .before .before .before .before .before .before)) (count (c .before .before)) (c .before .before .saturating-add2 .ensures) (c .before .if2 .left) (c .bit-length .ensures ∙ ap (λ (k : ℕ). 8 * k) (sym (c .before .before .before .bytes2 .ensures)))
 
 pub behind-length-field-spec : {M : Type 1} → statement M
 behind-length-field-spec =
@@ -86,8 +86,8 @@ behind-length-field-spec =
     usize-from-bytes-requires
     enum-told
     enum-known-number
-    bytes-requires-2
     lowest-bits-requires
+    bytes-requires-2
     saturating-add-requires-2
     returns-2
     bit-length-requires

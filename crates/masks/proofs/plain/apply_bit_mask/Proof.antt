@@ -12,23 +12,23 @@ use Rattle.masks.proofs.plain.apply_bit_mask.Statement.{statement}
 use Rattle.masks.proofs.plain.apply_bit_mask.Tie as tie
 
 abbrev Inv-loop : tie.InvT-loop
-Inv-loop data₀ mask kept bit-pos i₀ i-end «data» i =
+Inv-loop data₀ mask kept bit-pos end i₀ i-end «data» i =
     (i ≤ i-end) × (i ≤ 8 * length data₀) × (length «data» ≡ length data₀) × («data» ≡ overlaid (within i bit-pos) (keptBit kept bit-pos mask data₀) data₀)
 
 abbrev μ-loop : tie.MeasureT-loop
-μ-loop data₀ mask kept bit-pos i₀ i-end «data» i = i-end - i
+μ-loop data₀ mask kept bit-pos end i₀ i-end «data» i = i-end - i
+
+bit-end-requires : tie.Need-bit-end-requires Inv-loop μ-loop
+bit-end-requires c κs = omega arith
 
 bits-requires : tie.Need-bits-requires Inv-loop μ-loop
 bits-requires c κs = search needs
 
 loop-holds : tie.Need-loop-holds Inv-loop μ-loop
-loop-holds c = let s = c .before .before .before in (omega arith, omega arith, omega arith, overlaid-none (s .args .bit-pos) (keptBit (s .args .kept) (s .args .bit-pos) (s .args .mask .now) (s .args .«data» .now)) (s .args .«data» .now) (λ j. c .before .before .slice-known .given j .fits))
+loop-holds c = let s = c .before .before .before .before in (omega arith, omega arith, omega arith, overlaid-none (s .args .bit-pos) (keptBit (s .args .kept) (s .args .bit-pos) (s .args .mask .now) (s .args .«data» .now)) (s .args .«data» .now) (λ j. c .before .before .before .slice-known .given j .fits))
 
 add-if1 : tie.Need-add-if1 Inv-loop μ-loop
 add-if1 c = omega arith
-
-mul-if1 : tie.Need-mul-if1 Inv-loop μ-loop
-mul-if1 c = omega arith
 
 keeps-at-requires : tie.Need-keeps-at-requires Inv-loop μ-loop
 keeps-at-requires c κs = search needs
@@ -53,7 +53,7 @@ loop-less c = omega arith
 
 loop-again : tie.Need-loop-again Inv-loop μ-loop
 loop-again c = let k = c .before .before .before .before .before .before .before .before .before in
-    let s = c .before .before .before .before .before .before .before .before .before .before .before .before .before in
+    let s = c .before .before .before .before .before .before .before .before .before .before .before .before .before .before in
     let i = k .loop .i in
     let inside : s .args .bit-pos + i < 8 * length (s .args .«data» .now) = omega arith in (
       omega arith,
@@ -68,7 +68,7 @@ same-length : tie.Need-same-length Inv-loop μ-loop
 same-length c = omega arith
 
 returns : tie.Need-returns Inv-loop μ-loop
-returns c = let s = c .before .before .before .before .before in
+returns c = let s = c .before .before .before .before .before .before in
     let all : c .before .loop .i ≡ s .args .bit-len .0 = omega arith in
     c .before .loop .inv .3 ∙ ap (λ (n : ℕ). overlaid (within n (s .args .bit-pos)) (keptBit (s .args .kept) (s .args .bit-pos) (s .args .mask .now) (s .args .«data» .now)) (s .args .«data» .now)) all
 
@@ -77,7 +77,7 @@ same-length-2 c = omega arith
 
 returns-2 : tie.Need-returns-2 Inv-loop μ-loop
 returns-2 c = let k = c .before .before in
-    let s = c .before .before .before .before .before .before in
+    let s = c .before .before .before .before .before .before .before in
     k .loop .inv .3 ∙ overlaid-past (k .loop .i) (s .args .bit-len .0) (s .args .bit-pos) (keptBit (s .args .kept) (s .args .bit-pos) (s .args .mask .now) (s .args .«data» .now)) (s .args .«data» .now) (omega arith) (omega arith)
 
 pub apply-bit-mask-spec : {M : Type 1} → statement M
@@ -86,10 +86,10 @@ apply-bit-mask-spec =
     (tie.spec
     Inv-loop
     μ-loop
+    bit-end-requires
     bits-requires
     loop-holds
     add-if1
-    mul-if1
     keeps-at-requires
     add-bit-at
     bit-at-requires

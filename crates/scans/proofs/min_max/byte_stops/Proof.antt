@@ -1,6 +1,8 @@
 -- `scans::byte_stops` meets its contract.
+use Prim.Native.Nat.{_-_}
 use mathlib.Core.Path.{sym, _∙_}
 use mathlib.Core.Bool.{and-true}
+use native.Mathlib.Omega.{arith}
 use borrow.Author.Tests.{le-leb, lt-leb}
 use borrow.Author.Needs.{needs}
 use Rattle.scans.proofs.min_max.byte_stops.Statement.{statement}
@@ -9,14 +11,17 @@ use Rattle.scans.proofs.min_max.byte_stops.Tie as tie
 sub-if1 : tie.Need-sub-if1
 sub-if1 c = search needs
 
+bytes-requires : tie.Need-bytes-requires
+bytes-requires c κs = search needs
+
 returns : tie.Need-returns
-returns c = rw (lt-leb _ _ (c .if1 .taken))
+returns c = let s = c .before .before .before in rw (lt-leb (s .args .min-length .0) (s .args .end-pos - s .args .byte-pos) (omega arith))
 
 has-at-requires : tie.Need-has-at-requires
 has-at-requires c κs = search needs
 
 returns-2 : tie.Need-returns-2
-returns-2 c = rw (le-leb _ _ (c .before .if1 .left)) (c .has-at .ensures ∙ sym (and-true _))
+returns-2 c = let s = c .before .before .before .before in rw (le-leb (s .args .min-length .0) (s .args .end-pos - s .args .byte-pos) (omega arith)) (c .has-at .ensures ∙ sym (and-true _))
 
 pub byte-stops-spec : {M : Type 1} → statement M
-byte-stops-spec = tie.close (tie.spec sub-if1 returns has-at-requires returns-2)
+byte-stops-spec = tie.close (tie.spec sub-if1 bytes-requires returns has-at-requires returns-2)

@@ -10,7 +10,7 @@ use Rattle.scans.proofs.min_max.scan_pairs.Tie as tie
 
 abbrev Inv-loop : tie.InvT-loop
 Inv-loop terminator uds-payload byte-pos min-length max-end end-pos₀ end-pos =
-    let stops = stopsAt true terminator uds-payload byte-pos min-length in
+    let stops = stopsAt true terminator uds-payload byte-pos (min-length .0) in
     (byte-pos ≤ end-pos) × (scan 2 stops ((max-end - end-pos + 1) / 2) end-pos ≡ scan 2 stops ((max-end - byte-pos + 1) / 2) byte-pos)
 
 abbrev μ-loop : tie.MeasureT-loop

@@ -38,8 +38,8 @@ byte-count-requires c κs = search needs
 bytes-requires : tie.Need-bytes-requires
 bytes-requires c κs = search needs
 
-add-total : tie.Need-add-total
-add-total c = search needs
+add-t18 : tie.Need-add-t18
+add-t18 c = search needs
 
 frame-requires : tie.Need-frame-requires
 frame-requires c κs = let s = c .before .before .before .before .before .before .before in
@@ -47,7 +47,7 @@ frame-requires c κs = let s = c .before .before .before .before .before .before
     omega arith
 
 write-bytes-requires : tie.Need-write-bytes-requires
-write-bytes-requires c κs = let tail = ap (λ (k : Packing). k .«tail_len») (c .before .before .frame .ensures) in omega arith
+write-bytes-requires c κs = let tail = ap (λ (k : Packing). k .«tail_len» .0) (c .before .before .frame .ensures) in omega arith
 
 returns : tie.Need-returns
 returns c = rw (sym (c .before .before .before .validate-leading-length .ensures), c .before .refusal .given .1)
@@ -72,7 +72,7 @@ encode-leading-length-spec =
     enum-told
     byte-count-requires
     bytes-requires
-    add-total
+    add-t18
     frame-requires
     write-bytes-requires
     returns

@@ -30,14 +30,14 @@ enum-told-2 c = search needs
 
 write-terminated-requires-2 : tie.Need-write-terminated-requires-2
 write-terminated-requires-2 c κs = let s = c .before .before .before .before .before .before .before in
-    (short-terminator (s .args .is-unicode) (c .before .before .before .before .terminator-len .result) (c .before .before .before .before .terminator-len .ensures), s .pre)
+    (short-terminator (s .args .is-unicode) (c .before .before .before .before .terminator-len .result .0) (c .before .before .before .before .terminator-len .ensures), s .pre)
 
 enum-told-3 : tie.Need-enum-told-3
 enum-told-3 c = search needs
 
 write-terminated-requires-3 : tie.Need-write-terminated-requires-3
 write-terminated-requires-3 c κs = let s = c .before .before .before .before .before .before .before in
-    (short-terminator (s .args .is-unicode) (c .before .before .before .before .terminator-len .result) (c .before .before .before .before .terminator-len .ensures), s .pre)
+    (short-terminator (s .args .is-unicode) (c .before .before .before .before .terminator-len .result .0) (c .before .before .before .before .terminator-len .ensures), s .pre)
 
 same-length : tie.Need-same-length
 same-length c = search needs

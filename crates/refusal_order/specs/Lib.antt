@@ -1,0 +1,2 @@
+-- `RefusalsInOrder` is RULES 11 on one page.
+pub mod RefusalsInOrder

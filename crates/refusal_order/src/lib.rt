@@ -1,0 +1,1 @@
+// Theorems on the order of refusals. There is no code.
