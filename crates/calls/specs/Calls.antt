@@ -5,10 +5,13 @@ use lib.ListN.{length}
 use Rattle.kinds.specs.Answers.{wrote}
 use Rattle.kinds.specs.Outcomes.{Outcome, gives, lacks, refuses, after, following, Answer, answer, concluded}
 use Rattle.coded.specs.declared.coded_type.DiagCodedType.{DiagCodedType}
-use Rattle.coded.specs.Getters.{keyNameOf}
+use Rattle.coded.specs.Getters.{keyPlaceOf}
 use Rattle.field.specs.Field.{fieldOf, partAt, startAt}
 use Rattle.field.specs.Refusals.{slicesRefusal}
-use Rattle.record.specs.Recorded.{codedByRecord}
+use Rattle.record.specs.declared.parsing.OptionalCoded.{OptionalCoded}
+use Rattle.record.specs.declared.parsing.OptionalCoded.the-variants.{Coded}
+use Rattle.record.specs.Parsing.{codedIn}
+use Rattle.record.specs.Recorded.{wellFormed}
 use Rattle.parts.specs.Part.{runtimePart, partAnswer}
 use Rattle.unpack.specs.Found.{readAnswer}
 use Rattle.readers.specs.Finding.{fieldFinding}
@@ -22,10 +25,19 @@ pub data Description : Type 0 where
   byType : DiagCodedType → Description
   byRecord : List ℕ → Description
 
+-- the coded type that it says
+abbrev pub codedSaid : Description → OptionalCoded
+codedSaid (byType t) = Coded t
+codedSaid (byRecord bytes) = codedIn bytes
+
+-- the size of its record, which is a slice too
+abbrev pub recordBytes : Description → ℕ
+recordBytes (byType t) = 0
+recordBytes (byRecord bytes) = length bytes
+
 -- 43, 44, and 42 of a record: of a call that lends a store and two other slices, and of the last so many bytes are used
 abbrev pub codedBy : Description → ℕ → ℕ → ℕ → ℕ → Outcome DiagCodedType
-codedBy (byType t) store a b used = after (slicesRefusal 0 store a b used) (gives t)
-codedBy (byRecord bytes) store a b used = codedByRecord bytes store a b used
+codedBy d store a b used = after (slicesRefusal (recordBytes d) store a b used) (wellFormed (codedSaid d))
 
 -- and then 42 of the part of the store, 12, 13, 10, 11, and the call's own
 abbrev pub called : {A : Type 0} → Description → List ℕ → ℕ → ℕ → ℕ → (DiagCodedType → Outcome A) → Outcome A
@@ -52,7 +64,7 @@ abbrev pub nameAnswer : Outcome (List ℕ) → Answer (List ℕ)
 nameAnswer = concluded [] (answer wrote)
 
 unfoldable pub keyName : Description → List ℕ → Answer (List ℕ)
-keyName d store = nameAnswer (called d store 0 0 0 (λ t. gives (partAt store (keyNameOf (t .«type_»)))))
+keyName d store = nameAnswer (called d store 0 0 0 (λ t. gives (partAt store (keyPlaceOf (t .«type_»)))))
 
 -- where that name starts in the store, and 0 where there is none
 abbrev pub startGiven : Outcome ℕ → ℕ
@@ -61,4 +73,4 @@ startGiven (lacks expected actual) = 0
 startGiven (refuses r) = 0
 
 unfoldable pub nameStart : Description → List ℕ → ℕ
-nameStart d store = startGiven (called d store 0 0 0 (λ t. gives (startAt (length store) (keyNameOf (t .«type_»)))))
+nameStart d store = startGiven (called d store 0 0 0 (λ t. gives (startAt (length store) (keyPlaceOf (t .«type_»)))))

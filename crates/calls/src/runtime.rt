@@ -5,7 +5,7 @@ ghost use lib.ListN.{length};
 ghost use denote.Ref.{ptr};
 ghost use Rattle.kinds.specs.Answers.{numbered};
 ghost use Rattle.kinds.specs.Outcomes.{answer};
-ghost use Rattle.kinds.specs.Slices.{behind};
+ghost use Rattle.kinds.specs.Slices.{placeBehind};
 ghost use Rattle.parts.specs.Part.{partStart};
 ghost use Rattle.calls.specs.Calls.{byType, byRecord, runtimeRead, keyName, nameStart};
 use coded::DiagCodedType;
@@ -26,7 +26,7 @@ pub fn decode_with_runtime_byte_length<'a>(
     report: &mut [usize; 4],
 ) -> &'a [u8]
     ensures { λ r. ⌜ answer (now (number .exit) ∷ now (report .exit)) (now r) ≡ runtimeRead (byType «coded_type») (now (store .entry)) (now («uds_payload» .entry)) «byte_pos» («byte_count» .0) ⌝ }
-    ensures { λ r. ⌜ ptr r ≡ behind (partStart (length (now r)) «byte_pos») (ptr («uds_payload» .entry)) ⌝ }
+    ensures { λ r. ⌜ ptr r ≡ placeBehind (partStart (length (now r)) «byte_pos») (ptr («uds_payload» .entry)) ⌝ }
 {
     let store_len = ByteCount(store.len());
     let payload_len = ByteCount(uds_payload.len());
@@ -55,7 +55,7 @@ pub fn decode_with_runtime_byte_length_by_record<'a>(
     report: &mut [usize; 4],
 ) -> &'a [u8]
     ensures { λ r. ⌜ answer (now (number .exit) ∷ now (report .exit)) (now r) ≡ runtimeRead (byRecord (now («record» .entry))) (now (store .entry)) (now («uds_payload» .entry)) «byte_pos» («byte_count» .0) ⌝ }
-    ensures { λ r. ⌜ ptr r ≡ behind (partStart (length (now r)) «byte_pos») (ptr («uds_payload» .entry)) ⌝ }
+    ensures { λ r. ⌜ ptr r ≡ placeBehind (partStart (length (now r)) «byte_pos») (ptr («uds_payload» .entry)) ⌝ }
 {
     let store_len = ByteCount(store.len());
     let payload_len = ByteCount(uds_payload.len());
@@ -77,7 +77,7 @@ pub fn decode_with_runtime_byte_length_by_record<'a>(
 // refusal, and where there is no name: `length_key_place` tells that from an empty name.
 pub fn length_key_name<'a>(coded_type: DiagCodedType, store: &'a [u8], number: &mut u32) -> &'a [u8]
     ensures { λ r. ⌜ answer (numbered (now (number .exit))) (now r) ≡ keyName (byType «coded_type») (now (store .entry)) ⌝ }
-    ensures { λ r. ⌜ ptr r ≡ behind (nameStart (byType «coded_type») (now (store .entry))) (ptr (store .entry)) ⌝ }
+    ensures { λ r. ⌜ ptr r ≡ placeBehind (nameStart (byType «coded_type») (now (store .entry))) (ptr (store .entry)) ⌝ }
 {
     let store_len = ByteCount(store.len());
     match field::validate_slices(ByteCount(0), store_len, ByteCount(0), ByteCount(0), 0) {

@@ -14,8 +14,8 @@ bitLenOf (StandardLength s) = Bits (s .«bit_length»)
 bitLenOf (ParamLengthInfo name) = Variable
 
 -- where the key's name stands in the store
-abbrev pub keyNameOf : DiagCodedTypeVariant → OptionalPlace
-keyNameOf (ParamLengthInfo name) = At name
-keyNameOf (LeadingLengthInfo bits) = Absent
-keyNameOf (MinMaxLength m) = Absent
-keyNameOf (StandardLength s) = Absent
+abbrev pub keyPlaceOf : DiagCodedTypeVariant → OptionalPlace
+keyPlaceOf (ParamLengthInfo name) = At name
+keyPlaceOf (LeadingLengthInfo bits) = Absent
+keyPlaceOf (MinMaxLength m) = Absent
+keyPlaceOf (StandardLength s) = Absent

@@ -3,7 +3,7 @@ ghost use mathlib.Core.Path.{_≡_};
 ghost use mathlib.Core.Bool.{true};
 ghost use Rattle.coded.specs.Refusals.{evenLimits, codedTypeRefusal, madeRefusal};
 ghost use Rattle.coded.specs.Making.{newCodedType, outcomeOfCodedType};
-ghost use Rattle.coded.specs.Getters.{bitLenOf, keyNameOf};
+ghost use Rattle.coded.specs.Getters.{bitLenOf, keyPlaceOf};
 use super::variants::DiagCodedTypeVariant;
 use super::variants::MaxLength;
 use super::variants::MinMaxLengthType;
@@ -106,7 +106,7 @@ impl DiagCodedType {
 
     // Where the store has the name of the parameter that gives the length.
     pub fn length_key_place(self) -> OptionalPlace
-        ensures { λ r. ⌜ r ≡ keyNameOf (self .«type_») ⌝ }
+        ensures { λ r. ⌜ r ≡ keyPlaceOf (self .«type_») ⌝ }
     {
         let type_ = self.type_;
         match type_ {

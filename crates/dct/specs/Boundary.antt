@@ -12,9 +12,10 @@ use Rattle.table.specs.Table.{fetched}
 abbrev pub startAnswer : ℕ → Answer (List ℕ) → Answer ℕ
 startAnswer at a = answer (a .report) (partStart (length (a .left)) at)
 
--- where the record starts, where the store starts, and the store's length; zeros on refusal
+-- where the record starts, where the store starts, and the store's length
 abbrev pub placesOf : Entry → List ℕ
 placesOf e = e .«record_at» ∷ e .«store_at» ∷ e .«store_len» .0 ∷ []
 
+-- zeros on refusal
 unfoldable pub placesFetched : List ℕ → ℕ → Answer (List ℕ)
 placesFetched table number = concluded (0 ∷ 0 ∷ 0 ∷ []) (λ e. answer wrote (placesOf e)) (fetched table number)

@@ -2,7 +2,7 @@
 ghost use mathlib.Core.Path.{_≡_};
 ghost use mathlib.Core.List.{_∷_};
 ghost use Rattle.kinds.specs.Answers.{numbered};
-ghost use Rattle.kinds.specs.Classes.{classLetter};
+ghost use Rattle.classes.specs.Classes.{classLetter};
 ghost use Rattle.kinds.specs.Outcomes.{answer};
 ghost use Rattle.payload.specs.Payload.{payloadOf};
 ghost use Rattle.calls.specs.Calls.{byRecord, decoded, encoded, clearedField, runtimeRead};
@@ -122,5 +122,5 @@ pub extern "C" fn dct_fetch(table: &[u8], number: usize, places: &mut [usize; 3]
 pub extern "C" fn dct_class(number: u32) -> u32
     ensures { λ r. ⌜ r ≡ classLetter number ⌝ }
 {
-    kinds::class_of(number)
+    classes::class_of(number)
 }

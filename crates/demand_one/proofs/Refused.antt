@@ -28,8 +28,8 @@ use Rattle.coded.specs.declared.variants.OptionalPlace.{OptionalPlace}
 use Rattle.coded.specs.declared.variants.OptionalPlace.the-variants as place
 use Rattle.coded.specs.declared.variants.DiagCodedTypeVariant.the-variants.{ParamLengthInfo}
 use Rattle.coded.specs.declared.coded_type.DiagCodedType.{DiagCodedType}
-use Rattle.coded.specs.Refusals.{minMaxRefusal, codedTypeRefusal}
-use Rattle.coded.specs.Getters.{keyNameOf}
+use Rattle.coded.specs.Refusals.{minMaxRefusal, codedTypeRefusal, madeRefusal}
+use Rattle.coded.specs.Getters.{keyPlaceOf}
 use Rattle.masks.specs.Mask.{Mask}
 use Rattle.field.specs.declared.Shape.{Shape}
 use Rattle.field.specs.declared.Shape.the-variants as shape
@@ -52,7 +52,7 @@ use Rattle.clear.specs.Clear.{shapeCleared, fieldClearing}
 use Rattle.parts.specs.Part.{runtimePart, partAnswer, partStart}
 use Rattle.calls.specs.Calls.{Description, byType, byRecord, codedBy, called, decoded, encoded, clearedField, runtimeRead, keyName}
 use Rattle.dct.specs.Boundary.{startAnswer, placesOf, placesFetched}
-use Rattle.demand_one.specs.Refusing.{row, thirty, Refuses, Ends, Decodes, Reads, Encodes, Clears, Fetches, HandsBack, Names, Stores, Described, Demand1}
+use Rattle.demand_one.specs.Refusing.{row, thirty, Refuses, Ends, Decodes, Reads, Encodes, Clears, Fetches, HandsBack, Names, Stores, ByDescription, Demand1}
 use Rattle.demand_one.proofs.Sizes.{size-written, size-cleared}
 use Rattle.demand_one.proofs.Made.{makes, makes-after, said-makes, fetch-makes}
 
@@ -241,9 +241,9 @@ module _ (d : Description) (store : List ℕ) where
   key-name-ends : Ends (Names store) [] (keyName d store)
   unfolding keyName
   key-name-ends =
-      let own : DiagCodedType → Outcome (List ℕ) = λ t. gives (partAt store (keyNameOf (t .«type_»))) in
+      let own : DiagCodedType → Outcome (List ℕ) = λ t. gives (partAt store (keyPlaceOf (t .«type_»))) in
       ends (PartOf store) (Names store) [] (answer wrote) (λ name h. record { at = h .at; size = h .size; reports = refl; part = h .part }) (called d store 0 0 0 own)
-      (holds-called (PartOf store) d store 0 0 0 own (λ t. at-place store (keyNameOf (t .«type_»))))
+      (holds-called (PartOf store) d store 0 0 0 own (λ t. at-place store (keyPlaceOf (t .«type_»))))
 
 fetch-ends : (table : List ℕ) (number : ℕ) → Ends Fetches (0 ∷ 0 ∷ 0 ∷ []) (placesFetched table number)
 unfolding placesFetched
@@ -262,9 +262,9 @@ record-of-ends t old =
 
 -- ---- all of them
 
-described : (d : Description) → Described d
+by-description : (d : Description) → ByDescription d
 unfolding decoded
-described d =
+by-description d =
     record {
       decode = λ store payload at pos output. reading-ends output _;
       encode = encode-ends d;
@@ -277,12 +277,13 @@ described d =
 pub demand-1 : Demand1
 demand-1 =
     record {
-      by-type = λ t. described (byType t);
-      by-record = λ bytes. described (byRecord bytes);
+      by-type = λ t. by-description (byType t);
+      by-record = λ bytes. by-description (byRecord bytes);
       fetch = fetch-ends;
       record-of = record-of-ends;
       new-limits = λ min max e. makes-after _ (minMaxRefusal min max) _ (makes _ _ (refl, refl, refl));
       new = λ t v highLow. makes-after _ (codedTypeRefusal t v) _ (makes _ _ (refl, refl, refl));
+      validate = λ t. makes-after _ (madeRefusal t) _ (makes _ _ refl);
       coded-by-record = λ bytes store a b used. makes-after _ (slicesRefusal (length bytes) store a b used) _ (said-makes (codedIn bytes));
       fetch-entry = fetch-makes;
     }
@@ -295,5 +296,5 @@ no-record : (old : List ℕ) → storedRecord unsaid old .report ≡ numbered 42
 unfolding storedRecord
 no-record old = refl
 
-pub demand-1-unsaid : Described (byType unsaid)
+pub demand-1-unsaid : ByDescription (byType unsaid)
 demand-1-unsaid = demand-1 .by-type unsaid

@@ -10,11 +10,12 @@ use Rattle.kinds.specs.declared.types.DataType.{DataType}
 use Rattle.kinds.specs.declared.refusals.Refusal.{Refusal}
 use Rattle.kinds.specs.Slices.{cut}
 use Rattle.kinds.specs.Answers.{numberOf, wrote, read}
-use Rattle.kinds.specs.Outcomes.{Outcome, gives, refuses, Answer}
+use Rattle.kinds.specs.Outcomes.{Outcome, gives, refuses, after, Answer}
 use Rattle.coded.specs.declared.variants.MaxLength.{MaxLength}
 use Rattle.coded.specs.declared.variants.Termination.{Termination}
 use Rattle.coded.specs.declared.variants.DiagCodedTypeVariant.{DiagCodedTypeVariant}
 use Rattle.coded.specs.declared.coded_type.DiagCodedType.{DiagCodedType}
+use Rattle.coded.specs.Refusals.{madeRefusal}
 use Rattle.coded.specs.Making.{newMinMax, newCodedType}
 use Rattle.record.specs.declared.parsing.OptionalCoded.the-variants.{Coded}
 use Rattle.record.specs.Numbers.{recordSize}
@@ -116,7 +117,7 @@ Makes Good o = Gives Good o ⊎ TurnsDown o
 -- The calls that take a description, for every input. What is left is all that a call can change beside its report: of a decode the output,
 -- of an encode and a clear the payload with its used length, and of a read from C the place of the part, which is 0 where there is none. A
 -- read and a key name hand back a part, which is empty then.
-pub record Described (d : Description) : Type 0 where
+pub record ByDescription (d : Description) : Type 0 where
   pub decode : (store payload : List ℕ) (at pos : ℕ) (output : List ℕ) → Ends (Decodes output) output (decoded d store payload at pos output)
   pub encode : (store input : List ℕ) (p : Payload) (at pos : ℕ) → Ends (Encodes p) p (encoded d store input p at pos)
   pub clear : (store : List ℕ) (p : Payload) (at pos : ℕ) → Ends (Clears p) p (clearedField d store p at pos)
@@ -124,17 +125,19 @@ pub record Described (d : Description) : Type 0 where
   pub read-part : (store payload : List ℕ) (at count : ℕ) → Ends (HandsBack payload at count) [] (runtimeRead d store payload at count)
   pub key-name : (store : List ℕ) → Ends (Names store) [] (keyName d store)
 
--- Every public call that can refuse; `new_high_low_byte_order` is `new` with true. A coded type is any at all: also one that no record can say, and one that `new` would refuse. So is a record: any bytes.
+-- Every public call that can refuse; `new_high_low_byte_order` is `new` with true. A coded type is any at all: also one that no record can
+-- say, and one that `new` would refuse. So is a record: any bytes.
 -- A refused fetch leaves zeros in place of the places that C is told, and a refused `record_of` the old bytes. `new-limits` is the `new` of
--- MinMaxLengthType, and `new` that of DiagCodedType.
+-- MinMaxLengthType, and `new` that of DiagCodedType; `validate` gives its coded type back.
 pub record Demand1 : Type 0 where
-  pub by-type : (t : DiagCodedType) → Described (byType t)
-  pub by-record : (bytes : List ℕ) → Described (byRecord bytes)
+  pub by-type : (t : DiagCodedType) → ByDescription (byType t)
+  pub by-record : (bytes : List ℕ) → ByDescription (byRecord bytes)
   pub fetch : (table : List ℕ) (number : ℕ) → Ends Fetches (0 ∷ 0 ∷ 0 ∷ []) (placesFetched table number)
   pub record-of : (t : DiagCodedType) (old : List ℕ) → Ends Stores old (storedRecord t old)
   pub new-limits : (min : ℕ) (max : MaxLength) (e : Termination)
       → Makes (λ m. (m .«min_length» ≡ min) × (m .«max_length» ≡ max) × (m .termination ≡ e)) (newMinMax min max e)
   pub new : (t : DataType) (v : DiagCodedTypeVariant) (highLow : Bool)
       → Makes (λ c. (c .«base_datatype» ≡ t) × (c .«type_» ≡ v) × (c .«is_high_low_byte_order» ≡ highLow)) (newCodedType t v highLow)
+  pub validate : (t : DiagCodedType) → Makes (λ c. c ≡ t) (after (madeRefusal t) (gives t))
   pub coded-by-record : (bytes : List ℕ) (store a b used : ℕ) → Makes (λ t. codedIn bytes ≡ Coded t) (codedByRecord bytes store a b used)
   pub fetch-entry : (table : List ℕ) (number : ℕ) → Makes (λ e. e .«store_at» + e .«store_len» .0 ≡ length table) (fetched table number)

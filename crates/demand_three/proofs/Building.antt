@@ -19,7 +19,7 @@ use Rattle.ownership.proofs.Effects.{writtenIn, imprint, left}
 use Rattle.ownership.proofs.Laid.{Inside, bitAt-zeros}
 use Rattle.ownership.proofs.Writes.{left-zero, imprint-none, length-writtenIn, bytes-writtenIn, write-law}
 use Rattle.ownership.proofs.Permutations.{total, total-permuted}
-use Rattle.demand_three.specs.Changing.{Placed, cutOf, own, Way, blank, message, Succeeds, Entry, writeEntry, build, AllSucceed, accepted, allAccepted, allLent, disjoint}
+use Rattle.demand_three.specs.Changing.{Placed, cutOf, own, Way, blank, message, Succeeds, Assignment, writeAssignment, build, AllSucceed, accepted, allAccepted, allLent, disjoint}
 use Rattle.demand_three.proofs.Calls.{Taken, bitsOf, writable}
 use Rattle.demand_three.proofs.Following.{Follows, taken-by, writes-done}
 use Rattle.demand_three.proofs.Owners.{taken, refusing, first-passes, owners, Fitting, fitting, fitting-permuted}
@@ -73,40 +73,40 @@ step false mask x s m none one fresh =
 -- ---- one after the other
 
 module _ (w : Way) where
-  abbrev pub lands : ℕ → ℕ → Entry w → ℕ
+  abbrev pub lands : ℕ → ℕ → Assignment w → ℕ
   lands n k e = landsAt n (w .says (e .told)) (e .value) k
 
   -- what lands at k, of all fields
-  abbrev pub landing : ℕ → ℕ → List (Entry w) → ℕ
+  abbrev pub landing : ℕ → ℕ → List (Assignment w) → ℕ
   landing n k l = total (lands n k) l
 
-  unfoldable pub builtOn : List (Entry w) → List ℕ → List ℕ
+  unfoldable pub builtOn : List (Assignment w) → List ℕ → List ℕ
   builtOn [] xs = xs
   builtOn (e ∷ l) xs = builtOn l (writtenIn (cutOf (w .says (e .told))) (bitsOf (w .says (e .told)) (e .value)) xs)
 
-  abbrev pub anew : ℕ → List (Entry w) → List ℕ
+  abbrev pub anew : ℕ → List (Assignment w) → List ℕ
   anew n l = builtOn l (replicate n 0)
 
   -- n bytes of which each bit is what lands there
-  pub record Shows (n : ℕ) (l : List (Entry w)) (xs : List ℕ) : Type 0 where
+  pub record Shows (n : ℕ) (l : List (Assignment w)) (xs : List ℕ) : Type 0 where
     pub long : length xs ≡ n
     pub bytes : Bytes xs
     pub bits : (k : ℕ) → k < 8 * n → bitAt xs k ≡ landing n k l
 
-  pub one-shown : (n : ℕ) (l : List (Entry w)) (xs ys : List ℕ) → Shows n l xs → Shows n l ys → xs ≡ ys
+  pub one-shown : (n : ℕ) (l : List (Assignment w)) (xs ys : List ℕ) → Shows n l xs → Shows n l ys → xs ≡ ys
   one-shown n l xs ys a b =
       ext-bits xs ys (a .bytes) (b .bytes) (a .long ∙ sym (b .long)) (λ k h. let i : k < 8 * n = rw (a .long) at h in a .bits k i ∙ sym (b .bits k i))
 
   module _ (fw : Follows w) (n : ℕ) (behind : List ℕ) (small : n + length behind ≤ 65535) where
     -- what is built of l on xs; a bit that l owns has to be zero before
-    record Built (l : List (Entry w)) (xs : List ℕ) : Type 0 where
+    record Built (l : List (Assignment w)) (xs : List ℕ) : Type 0 where
       pub builds : build w l (payloadOf (xs ++ behind) n) ≡ payloadOf (builtOn l xs ++ behind) n
       pub succeed : AllSucceed w n behind l (payloadOf (xs ++ behind) n)
       pub long : length (builtOn l xs) ≡ n
       pub bytes : Bytes xs → Bytes (builtOn l xs)
       pub bits : (k : ℕ) → k < 8 * n → owners w n k l ≤ 1 → (1 ≤ owners w n k l → bitAt xs k ≡ 0) → bitAt (builtOn l xs) k ≡ bitAt xs k + landing n k l
 
-    built : (l : List (Entry w)) (xs : List ℕ) → refusing w n l ≡ 0 → length xs ≡ n → Built l xs
+    built : (l : List (Assignment w)) (xs : List ℕ) → refusing w n l ≡ 0 → length xs ≡ n → Built l xs
     unfolding build AllSucceed builtOn
     built [] xs r long = record { builds = refl; succeed = tt; long = long; bytes = λ b. b; bits = λ k h one fresh. omega arith }
     built (e ∷ l) xs r long =
@@ -134,12 +134,12 @@ module _ (w : Way) where
     -- ---- on zero bytes
 
     -- what is built of l′ shows a list in another order
-    pub record Anew (l l′ : List (Entry w)) : Type 0 where
+    pub record Anew (l l′ : List (Assignment w)) : Type 0 where
       pub builds : build w l′ (blank n behind) ≡ payloadOf (anew n l′ ++ behind) n
       pub succeed : AllSucceed w n behind l′ (blank n behind)
       pub shows : Shows n l (anew n l′)
 
-    pub build-anew : {l l′ : List (Entry w)} → List·Permᴰ l l′ → Fitting w n l → Anew l l′
+    pub build-anew : {l l′ : List (Assignment w)} → List·Permᴰ l l′ → Fitting w n l → Anew l l′
     build-anew {l} {l′} p s =
         let s′ = fitting-permuted w n p s in
         let made = built l′ (replicate n 0) (s′ .none-refuses) (length-replicate n 0) in
@@ -159,7 +159,7 @@ module _ (w : Way) where
         }
 
     -- a list that is accepted and disjoint is built to the same bytes in any order
-    pub any-order : {l l′ : List (Entry w)} → List·Permᴰ l l′ → allAccepted w n l ≡ true → allLent w l ≡ true → disjoint w n l ≡ true
+    pub any-order : {l l′ : List (Assignment w)} → List·Permᴰ l l′ → allAccepted w n l ≡ true → allLent w l ≡ true → disjoint w n l ≡ true
         → build w l (blank n behind) ≡ build w l′ (blank n behind)
     any-order {l} {l′} p a g d =
         let one = build-anew (Permᴰ·refl l) (fitting w n l a g d) in

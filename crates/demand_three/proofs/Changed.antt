@@ -21,7 +21,7 @@ use Rattle.ownership.proofs.Laid.{Inside}
 use Rattle.ownership.proofs.Writes.{left-zero}
 use Rattle.ownership.proofs.Clears.{length-clearedIn, bytes-clearedIn, clear-law}
 use Rattle.ownership.proofs.Permutations.{total-append}
-use Rattle.demand_three.specs.Changing.{Placed, cutOf, own, Way, blank, message, Entry, with, build, change, accepted, between, Premises, Changed, Demand3Of}
+use Rattle.demand_three.specs.Changing.{Placed, cutOf, own, Way, blank, message, Assignment, with, build, change, accepted, between, Premises, Changed, Demand3Of}
 use Rattle.demand_three.proofs.Calls.{Taken}
 use Rattle.demand_three.proofs.Following.{Follows, taken-by, writes-done, clears-done}
 use Rattle.demand_three.proofs.Owners.{taken, refuses, refusing, first-passes, ownsAt, owners, first-owns-not, Fitting, fitting, fitting-changed, between-accepted}
@@ -40,7 +40,7 @@ replaced false a b s s′ e e₁ e₂ = omega (arith, e₁ refl, e₂ refl)
 
 module _ (w : Way) (fw : Follows w) (n : ℕ) (behind : List ℕ) (small : n + length behind ≤ 65535) where
   -- what nobody owns, nothing lands at
-  lands-nowhere : (l : List (Entry w)) → refusing w n l ≡ 0 → (k : ℕ) → k < 8 * n → owners w n k l ≡ 0 → landing w n k l ≡ 0
+  lands-nowhere : (l : List (Assignment w)) → refusing w n l ≡ 0 → (k : ℕ) → k < 8 * n → owners w n k l ≡ 0 → landing w n k l ≡ 0
   lands-nowhere [] r k h e = refl
   lands-nowhere (x ∷ l) r k h e =
       let f : Placed = w .says (x .told) in
@@ -51,7 +51,7 @@ module _ (w : Way) (fw : Follows w) (n : ℕ) (behind : List ℕ) (small : n + l
       let rest = lands-nowhere l (a .1) k h (o .1) in
       omega (arith, first, rest)
 
-  module _ (before after : List (Entry w)) (x : w .Told) (v v′ : List ℕ) (l′ l″ : List (Entry w)) (p : Premises w n behind before after x v v′ l′ l″) where
+  module _ (before after : List (Assignment w)) (x : w .Told) (v v′ : List ℕ) (l′ l″ : List (Assignment w)) (p : Premises w n behind before after x v v′ l′ l″) where
     abbrev f : Placed
     f = w .says x
 

@@ -2,7 +2,7 @@
 -- breaks an example.
 use mathlib.Core.Path.{_≡_, refl}
 use mathlib.Core.Logic.{⊎-elim}
-use mathlib.Core.Bool.{true}
+use mathlib.Core.Bool.{true, cond}
 use mathlib.Core.List.{List, [], _∷_, _++_, List·Permᴰ·swap, Permᴰ·refl}
 use Prim.Native.Nat.{ℕ, zero, suc, _+_, _≤_, _<_}
 use native.Mathlib.Omega.{arith}
@@ -23,7 +23,7 @@ use Rattle.cutout.specs.CutOut.{cleared, readied}
 use Rattle.payload.specs.Writing.{spliced, inCutOut, grown, writing}
 use Rattle.calls.specs.Calls.{byRecord, encoded}
 use Rattle.ownership.specs.Ownership.{footprint, owns}
-use Rattle.demand_three.specs.Changing.{Exact, apartBelow, fieldWay, placedAs, codedAs, Located, recordWay, message, Entry, with, build, allAccepted, allLent, apartFrom, disjoint, Premises, Changed, changed}
+use Rattle.demand_three.specs.Changing.{Exact, wholeOrShort, apartBelow, fieldWay, placedAs, codedAs, Located, recordWay, message, Assignment, with, build, allAccepted, allLent, apartFrom, disjoint, Premises, Changed, changed}
 use Rattle.demand_three.proofs.Ways.{demand-3}
 
 -- a record of StandardLength: type, flags, bit length, and place and length of its mask
@@ -32,11 +32,11 @@ standardRecord type flags bits place size = type ∷ flags ∷ 3 ∷ 0 ∷ 0 ∷
 
 -- an unmasked number of so many bits, high-low, at a byte and a bit position
 abbrev bare : ℕ → ℕ → ℕ → Located (List ℕ)
-bare bits at pos = record { described = standardRecord 2 1 bits 0 0; at = at; pos = pos }
+bare bits at pos = record { description = standardRecord 2 1 bits 0 0; at = at; pos = pos }
 
 -- the same low-high
 abbrev turned : ℕ → ℕ → ℕ → Located (List ℕ)
-turned bits at pos = record { described = standardRecord 2 0 bits 0 0; at = at; pos = pos }
+turned bits at pos = record { description = standardRecord 2 0 bits 0 0; at = at; pos = pos }
 
 -- one field alone, without a mask
 module _ (n : ℕ) (behind : List ℕ) (x : Located (List ℕ)) (v v′ : List ℕ) where
@@ -72,11 +72,15 @@ longest-values =
     alone 1 [] (bare 8 0 0) (replicate 65535 0x12) (replicate 65535 0x34)
     (record { small = omega arith; all-accepted = refl; all-lent = refl; new-lent = refl; own-disjoint = refl; one-order = Permᴰ·refl _; other-order = Permᴰ·refl _ })
 
--- and in the field layer one more
-longest-value-of-a-field : Changed fieldWay 1 [] [] [] (placedAs (codedAs (byRecord (bare 8 0 0 .described))) [] 0 0) [] (replicate 65536 0x34) (with fieldWay (placedAs (codedAs (byRecord (bare 8 0 0 .described))) [] 0 0) [] ∷ []) (with fieldWay (placedAs (codedAs (byRecord (bare 8 0 0 .described))) [] 0 0) (replicate 65536 0x34) ∷ [])
+-- in the field layer values of any size
+any-size : (m : ℕ) → fieldWay .lends m ≡ true
+any-size m = refl
+
+-- so one more byte too
+longest-value-of-a-field : Changed fieldWay 1 [] [] [] (placedAs (codedAs (byRecord (bare 8 0 0 .description))) [] 0 0) [] (replicate 65536 0x34) (with fieldWay (placedAs (codedAs (byRecord (bare 8 0 0 .description))) [] 0 0) [] ∷ []) (with fieldWay (placedAs (codedAs (byRecord (bare 8 0 0 .description))) [] 0 0) (replicate 65536 0x34) ∷ [])
 unfolding codedOf writing grown inCutOut spliced allAccepted allLent apartFrom disjoint
 longest-value-of-a-field =
-    demand-3 .by-field 1 [] [] [] (placedAs (codedAs (byRecord (bare 8 0 0 .described))) [] 0 0) [] (replicate 65536 0x34) _ _
+    demand-3 .by-field 1 [] [] [] (placedAs (codedAs (byRecord (bare 8 0 0 .description))) [] 0 0) [] (replicate 65536 0x34) _ _
     (record { small = omega arith; all-accepted = refl; all-lent = refl; new-lent = refl; own-disjoint = refl; one-order = Permᴰ·refl _; other-order = Permᴰ·refl _ })
 
 -- ---- which fields: a single bit at bit position 7, the other numeric types, two fields side by side in one byte, a mask at the store's end
@@ -88,11 +92,11 @@ one-bit =
     (record { small = omega arith; all-accepted = refl; all-lent = refl; new-lent = refl; own-disjoint = refl; one-order = Permᴰ·refl _; other-order = Permᴰ·refl _ })
 
 -- Int32 of 64 bits across nine bytes, Float32 and Float64
-abbrev threeTypes : List (Entry (recordWay []))
+abbrev threeTypes : List (Assignment (recordWay []))
 threeTypes =
-    with (recordWay []) (record { described = standardRecord 1 0 64 0 0; at = 0; pos = 7 }) []
-    ∷ with (recordWay []) (record { described = standardRecord 3 0 32 0 0; at = 9; pos = 0 }) []
-    ∷ with (recordWay []) (record { described = standardRecord 8 1 64 0 0; at = 13; pos = 0 }) []
+    with (recordWay []) (record { description = standardRecord 1 0 64 0 0; at = 0; pos = 7 }) []
+    ∷ with (recordWay []) (record { description = standardRecord 3 0 32 0 0; at = 9; pos = 0 }) []
+    ∷ with (recordWay []) (record { description = standardRecord 8 1 64 0 0; at = 13; pos = 0 }) []
     ∷ []
 
 types-accepted : allAccepted (recordWay []) 21 threeTypes ≡ true
@@ -105,9 +109,9 @@ abbrev store : List ℕ
 store = replicate 32766 0 ++ (0xF0 ∷ 0x0F ∷ [])
 
 abbrev lastMask : ℕ → ℕ → Located (List ℕ)
-lastMask flags place = record { described = 2 ∷ flags ∷ 3 ∷ 0 ∷ 0 ∷ 0 ∷ 0 ∷ 8 ∷ 0 ∷ 0 ∷ 0 ∷ 0 ∷ 0x7F ∷ place ∷ 0 ∷ 1 ∷ []; at = 0; pos = 0 }
+lastMask flags place = record { description = 2 ∷ flags ∷ 3 ∷ 0 ∷ 0 ∷ 0 ∷ 0 ∷ 8 ∷ 0 ∷ 0 ∷ 0 ∷ 0 ∷ 0x7F ∷ place ∷ 0 ∷ 1 ∷ []; at = 0; pos = 0 }
 
-abbrev lower : List (Entry (recordWay store))
+abbrev lower : List (Assignment (recordWay store))
 lower = with (recordWay store) (lastMask 7 0xFF) (0x05 ∷ []) ∷ []
 
 -- that field first, changed in the other order: what is built of l′ has the second field first
@@ -124,6 +128,14 @@ side-by-side =
     (record { small = omega arith; all-accepted = refl; all-lent = refl; new-lent = refl; own-disjoint = refl; one-order = Permᴰ·refl _; other-order = List·Permᴰ·swap refl refl })
 
 -- ---- what is read back
+
+-- of the lengths from 1 to 64 bits
+abbrev readBackOf : ℕ → ℕ → List ℕ
+readBackOf len zero = []
+readBackOf len (suc k) = cond (wholeOrShort len) (len ∷ readBackOf (suc len) k) (readBackOf (suc len) k)
+
+lengths-back : readBackOf 1 64 ≡ 1 ∷ 2 ∷ 3 ∷ 4 ∷ 5 ∷ 6 ∷ 7 ∷ 8 ∷ 16 ∷ 24 ∷ 32 ∷ 40 ∷ 48 ∷ 56 ∷ 64 ∷ []
+lengths-back = refl
 
 -- a field alone in its bytes, read into as many bytes as it takes, from 65,535 bytes of which those behind the message may be any
 module _ (x : Located (List ℕ)) (n bits : ℕ) (v : List ℕ) (rest output : List ℕ) where

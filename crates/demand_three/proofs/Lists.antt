@@ -1,5 +1,5 @@
--- Worked lists of fields, in the field layer: who owns what, what is built, what a change makes of it and what is read back, as one table that the checker
--- computes.
+-- Worked lists of fields, in the field layer: who owns what, what is built, what a change makes of it and what is read back,
+-- as one table that the checker computes.
 use mathlib.Core.Path.{_≡_, refl}
 use mathlib.Core.Bool.{Bool, true, cond}
 use mathlib.Core.List.{List, [], _∷_, _++_}
@@ -27,7 +27,7 @@ use Rattle.unpack.specs.Found.{readAnswer}
 use Rattle.unpack.specs.Unpacked.{unpacked}
 use Rattle.readers.specs.Finding.{bitsFinding}
 use Rattle.ownership.specs.Ownership.{footprint, owns}
-use Rattle.demand_three.specs.Changing.{Placed, cutOf, apartBelow, fieldWay, zeros, wholeOrShort, insideBytes, unmasked, Entry, build, change, allAccepted, apartFrom, disjoint}
+use Rattle.demand_three.specs.Changing.{Placed, cutOf, apartBelow, fieldWay, zeros, wholeOrShort, insideBytes, unmasked, Assignment, build, change, allAccepted, apartFrom, disjoint}
 
 -- fields of so many bits at a byte and a bit position
 abbrev pub high : ℕ → ℕ → ℕ → Placed
@@ -48,22 +48,22 @@ condensedBy mask f = under (condensedMask mask) f
 abbrev typed : DataType → Placed → Placed
 typed t f = record { type = t; order = f .order; len = f .len; mask = f .mask; at = f .at; pos = f .pos }
 
-abbrev with : Placed → List ℕ → Entry fieldWay
+abbrev with : Placed → List ℕ → Assignment fieldWay
 with f v = record { told = f; value = v }
 
 abbrev flag : Bool → ℕ
 flag b = cond b 1 0
 
-abbrev footprints : ℕ → List (Entry fieldWay) → List ℕ
+abbrev footprints : ℕ → List (Assignment fieldWay) → List ℕ
 footprints n [] = []
 footprints n (e ∷ l) = footprint (cutOf (e .told)) n ++ footprints n l
 
 -- all accepted in n bytes, and own bits disjoint
-abbrev judged : ℕ → List (Entry fieldWay) → List ℕ
+abbrev judged : ℕ → List (Assignment fieldWay) → List ℕ
 judged n l = flag (allAccepted fieldWay n l) ∷ flag (disjoint fieldWay n l) ∷ []
 
 -- the bits that each field owns, what is built, and what it is after the first field's value is changed
-abbrev changed : ℕ → List (Entry fieldWay) → List ℕ → List ℕ
+abbrev changed : ℕ → List (Assignment fieldWay) → List ℕ → List ℕ
 changed n [] v = []
 changed n (e ∷ l) v =
     judged n (e ∷ l)
@@ -75,7 +75,7 @@ abbrev apartly : List ℕ → List ℕ → List ℕ → List ℕ
 apartly owned built new = 1 ∷ 1 ∷ (owned ++ (built ++ new))
 
 -- accepted and apart, what a change of the first field makes, and what building anew does
-abbrev against : ℕ → List (Entry fieldWay) → List ℕ → List ℕ
+abbrev against : ℕ → List (Assignment fieldWay) → List ℕ → List ℕ
 against n [] v = []
 against n (e ∷ l) v = judged n (e ∷ l) ++ (change fieldWay (e .told) v (build fieldWay (e ∷ l) (zeros n)) .left .bytes ++ build fieldWay (with (e .told) v ∷ l) (zeros n) .bytes)
 

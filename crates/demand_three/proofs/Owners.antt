@@ -9,7 +9,7 @@ use lib.ListN.{length}
 use Rattle.kinds.proofs.Outcomes.{both}
 use Rattle.kinds.proofs.Compare.{same}
 use Rattle.ownership.proofs.Permutations.{total, total-append, total-permuted}
-use Rattle.demand_three.specs.Changing.{Placed, own, apartBelow, apart, Way, Entry, with, accepted, allAccepted, allLent, apartFrom, disjoint, between}
+use Rattle.demand_three.specs.Changing.{Placed, own, apartBelow, apart, Way, Assignment, with, accepted, allAccepted, allLent, apartFrom, disjoint, between}
 
 -- one that is counted where a test does not hold, or where it does, and how many others are
 pub first-passes : (b : Bool) (m : ℕ) → cond b 0 1 + m ≡ 0 → (b ≡ true) × (m ≡ 0)
@@ -40,23 +40,23 @@ apart-at (suc m) n f g k l e h =
 
 module _ (w : Way) where
   -- an entry that is accepted, and whose value may be lent; 1 for one that is not, and how many of a list are not
-  abbrev pub taken : ℕ → Entry w → Bool
+  abbrev pub taken : ℕ → Assignment w → Bool
   taken n e = accepted w n (e .told) && w .lends (length (e .value))
 
-  abbrev pub refuses : ℕ → Entry w → ℕ
+  abbrev pub refuses : ℕ → Assignment w → ℕ
   refuses n e = cond (taken n e) 0 1
 
-  abbrev pub refusing : ℕ → List (Entry w) → ℕ
+  abbrev pub refusing : ℕ → List (Assignment w) → ℕ
   refusing n l = total (refuses n) l
 
   -- 1 for a field that owns bit k, and how many of a list do
-  abbrev pub ownsAt : ℕ → ℕ → Entry w → ℕ
+  abbrev pub ownsAt : ℕ → ℕ → Assignment w → ℕ
   ownsAt n k e = cond (own n (w .says (e .told)) k) 1 0
 
-  abbrev pub owners : ℕ → ℕ → List (Entry w) → ℕ
+  abbrev pub owners : ℕ → ℕ → List (Assignment w) → ℕ
   owners n k l = total (ownsAt n k) l
 
-  none-refusing : (n : ℕ) (l : List (Entry w)) → allAccepted w n l ≡ true → allLent w l ≡ true → refusing n l ≡ 0
+  none-refusing : (n : ℕ) (l : List (Assignment w)) → allAccepted w n l ≡ true → allLent w l ≡ true → refusing n l ≡ 0
   unfolding allAccepted allLent
   none-refusing n [] e g = refl
   none-refusing n (x ∷ l) e g =
@@ -66,14 +66,14 @@ module _ (w : Way) where
 
   -- ---- no bit has two owners
 
-  none-beside : (n : ℕ) (f : Placed) (l : List (Entry w)) (k : ℕ) → k < 8 * n → apartFrom w n f l ≡ true → own n f k ≡ true → owners n k l ≡ 0
+  none-beside : (n : ℕ) (f : Placed) (l : List (Assignment w)) (k : ℕ) → k < 8 * n → apartFrom w n f l ≡ true → own n f k ≡ true → owners n k l ≡ 0
   unfolding apartFrom
   none-beside n f [] k h e o = refl
   none-beside n f (x ∷ l) k h e o =
       let split = both (apart n f (w .says (x .told))) (apartFrom w n f l) e in
       rw (apart-at (8 * n) n f (w .says (x .told)) k h (split .0) o) (let rest = none-beside n f l k h (split .1) o in omega arith)
 
-  one-owner : (n : ℕ) (l : List (Entry w)) (k : ℕ) → k < 8 * n → disjoint w n l ≡ true → owners n k l ≤ 1
+  one-owner : (n : ℕ) (l : List (Assignment w)) (k : ℕ) → k < 8 * n → disjoint w n l ≡ true → owners n k l ≤ 1
   unfolding disjoint
   one-owner n [] k h e = omega arith
   one-owner n (x ∷ l) k h e =
@@ -83,18 +83,18 @@ module _ (w : Way) where
   -- ---- in any order, and with any value of one field
 
   -- no field is refused, and no bit has two owners
-  pub record Fitting (n : ℕ) (l : List (Entry w)) : Type 0 where
+  pub record Fitting (n : ℕ) (l : List (Assignment w)) : Type 0 where
     pub none-refuses : refusing n l ≡ 0
     pub one-owns : (k : ℕ) → k < 8 * n → owners n k l ≤ 1
 
-  pub fitting : (n : ℕ) (l : List (Entry w)) → allAccepted w n l ≡ true → allLent w l ≡ true → disjoint w n l ≡ true → Fitting n l
+  pub fitting : (n : ℕ) (l : List (Assignment w)) → allAccepted w n l ≡ true → allLent w l ≡ true → disjoint w n l ≡ true → Fitting n l
   fitting n l a g d = record { none-refuses = none-refusing n l a g; one-owns = λ k h. one-owner n l k h d }
 
-  pub fitting-permuted : (n : ℕ) {l l′ : List (Entry w)} → List·Permᴰ l l′ → Fitting n l → Fitting n l′
+  pub fitting-permuted : (n : ℕ) {l l′ : List (Assignment w)} → List·Permᴰ l l′ → Fitting n l → Fitting n l′
   fitting-permuted n p s =
       record { none-refuses = sym (total-permuted (refuses n) p) ∙ s .none-refuses; one-owns = λ k h. rw (sym (total-permuted (ownsAt n k) p)) (s .one-owns k h) }
 
-  module _ (n : ℕ) (before after : List (Entry w)) (x : w .Told) (v v′ : List ℕ) (lent : w .lends (length v′) ≡ true) (s : Fitting n (between w before after x v)) where
+  module _ (n : ℕ) (before after : List (Assignment w)) (x : w .Told) (v v′ : List ℕ) (lent : w .lends (length v′) ≡ true) (s : Fitting n (between w before after x v)) where
     between-taken : (taken n (with w x v) ≡ true) × (refusing n after ≡ 0)
     between-taken = first-passes (taken n (with w x v)) (refusing n after) (omega (arith, total-append (refuses n) before (with w x v ∷ after), s .none-refuses))
 

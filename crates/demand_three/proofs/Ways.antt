@@ -25,7 +25,7 @@ use Rattle.readers.specs.Finding.{fieldFinding}
 use Rattle.writers.specs.Shapes.{fieldEncoding}
 use Rattle.clear.specs.Clear.{fieldClearing}
 use Rattle.described.specs.Described.{described}
-use Rattle.calls.specs.Calls.{Description, byType, byRecord, codedBy, called, decoded, encoded, clearedField}
+use Rattle.calls.specs.Calls.{Description, byType, byRecord, recordBytes, called, decoded, encoded, clearedField}
 use Rattle.demand_three.specs.Changing.{Placed, Way, fieldAt, fieldWay, standardLength, placedAs, codedAs, Located, callWay, typeWay, recordWay, zeros, accepted, Demand3}
 use Rattle.demand_three.proofs.Calls.{fine, none-before, Accepted, accepted-parts}
 use Rattle.demand_three.proofs.Following.{Lent, Follows}
@@ -37,20 +37,10 @@ field-follows =
 
 -- ---- calls that are told a description
 
--- how long its record is
-abbrev sized : Description → ℕ
-sized (byType t) = 0
-sized (byRecord bytes) = length bytes
-
-coded-by : (d : Description) (store a b used : ℕ) → codedBy d store a b used ≡ after (slicesRefusal (sized d) store a b used) (codedAs d)
-coded-by (byType t) store a b used = refl
-coded-by (byRecord bytes) store a b used = refl
-
 called-as : {A : Type 0} (d : Description) (store : List ℕ) (a b used : ℕ) (own : DiagCodedType → Outcome A)
-    → called d store a b used own ≡ after (slicesRefusal (sized d) (length store) a b used) (following (codedAs d) (λ t. described t store own))
+    → called d store a b used own ≡ after (slicesRefusal (recordBytes d) (length store) a b used) (following (codedAs d) (λ t. described t store own))
 called-as {A} d store a b used own =
-    ap (λ (o : Outcome DiagCodedType). following {B = A} o (λ t. described t store own)) (coded-by d (length store) a b used)
-    ∙ following-after (slicesRefusal (sized d) (length store) a b used) (codedAs d) (λ t. described t store own)
+    following-after (slicesRefusal (recordBytes d) (length store) a b used) (codedAs d) (λ t. described t store own)
 
 slices-pass : (bytes store a b used : ℕ) → bytes ≤ 65535 → store ≤ 32768 → a ≤ 65535 → b ≤ 65535 → used ≤ b → slicesRefusal bytes store a b used ≡ Passed
 slices-pass bytes store a b used g h i j k = rw (le-ltb 65535 bytes g, le-ltb 32768 store h, le-ltb 65535 a i, le-ltb 65535 b j, le-ltb b used k)
@@ -62,13 +52,13 @@ record Legal (d : Description) (store : List ℕ) : Type 0 where
   pub says : codedAs d ≡ gives coded
   pub is-standard : coded .«type_» ≡ StandardLength standard
   pub passes : descriptionRefusal coded (length store) ≡ Passed
-  pub record-size : sized d ≤ 65535
+  pub record-size : recordBytes d ≤ 65535
   pub store-size : length store ≤ 32768
 
 module _ (d : Description) (store : List ℕ) (g : Legal d store) where
   called-legal : {A : Type 0} (a b used : ℕ) (own : DiagCodedType → Outcome A) → a ≤ 65535 → b ≤ 65535 → used ≤ b → called d store a b used own ≡ own (g .coded)
   called-legal a b used own i j k =
-      called-as d store a b used own ∙ rw (slices-pass (sized d) (length store) a b used (g .record-size) (g .store-size) i j k, g .says, g .passes)
+      called-as d store a b used own ∙ rw (slices-pass (recordBytes d) (length store) a b used (g .record-size) (g .store-size) i j k, g .says, g .passes)
 
   module _ (at pos : ℕ) where
     abbrev said : Placed
@@ -117,19 +107,19 @@ has-length (StandardLength s) e = record { standard = s; is-standard = refl }
 has-length (ParamLengthInfo name) e = absurd (true≢false (sym e))
 
 module _ {A : Type 0} (by : A → Description) (store : List ℕ) where
-  accepted-legal : (n : ℕ) (x : Located A) → accepted (callWay by store) n x ≡ true → Legal (by (x .described)) store × (n ≤ 65535)
+  accepted-legal : (n : ℕ) (x : Located A) → accepted (callWay by store) n x ≡ true → Legal (by (x .description)) store × (n ≤ 65535)
   unfolding encoded
   accepted-legal n x e =
-      let d : Description = by (x .described) in
+      let d : Description = by (x .description) in
       let size = length-replicate {A = ℕ} n 0 in
       let m : ℕ = length (zeros n .bytes) in
       let own : DiagCodedType → Outcome Payload = λ t. fieldEncoding (fieldOf t store) [] (zeros n) (x .at) (x .pos) in
       let parts = accepted-parts (callWay by store) n x e in
       let next : Outcome Payload = following (codedAs d) (λ t. described t store own) in
-      let whole : fine (zeros n) (after (slicesRefusal (sized d) (length store) 0 m n) next) ≡ true =
+      let whole : fine (zeros n) (after (slicesRefusal (recordBytes d) (length store) 0 m n) next) ≡ true =
       rw (called-as d store 0 m n own) at (parts .number) in
-      let h = none-before (slicesRefusal (sized d) (length store) 0 m n) (zeros n) next whole in
-      let fit = slices-fit (sized d) (length store) 0 m n (h .0) in
+      let h = none-before (slicesRefusal (recordBytes d) (length store) 0 m n) (zeros n) next whole in
+      let fit = slices-fit (recordBytes d) (length store) 0 m n (h .0) in
       let c = coded-fine (codedAs d) store own (zeros n) (h .1) in
       let some : ltb 0 (standardLength (c .coded .«type_»)) ≡ true = rw (c .says) at (parts .some) in
       let s = has-length (c .coded .«type_») some in (
@@ -139,7 +129,7 @@ module _ {A : Type 0} (by : A → Description) (store : List ℕ) where
           says = c .says;
           is-standard = s .is-standard;
           passes = c .passes;
-          record-size = ltb-false 65535 (sized d) (rule-passed (ltb 65535 (sized d)) SliceTooLong _ (h .0) .0);
+          record-size = ltb-false 65535 (recordBytes d) (rule-passed (ltb 65535 (recordBytes d)) SliceTooLong _ (h .0) .0);
           store-size = fit .0;
         },
         omega (arith, fit .2, size),
@@ -153,10 +143,10 @@ module _ {A : Type 0} (by : A → Description) (store : List ℕ) where
       record {
         accepts = λ n x e.
             let g = accepted-legal n x e in
-            rw (write-legal (by (x .described)) store (g .0) (x .at) (x .pos) [] (omega arith) (zeros n) (blank-lent n (g .1))) at e;
-        writes = λ n x e v l p h. write-legal (by (x .described)) store (accepted-legal n x e .0) (x .at) (x .pos) v (leb-true (length v) 65535 l) p h;
-        clears = λ n x e p h. clear-legal (by (x .described)) store (accepted-legal n x e .0) (x .at) (x .pos) p h;
-        reads = λ n x e payload output h l. read-legal (by (x .described)) store (accepted-legal n x e .0) (x .at) (x .pos) payload output h (leb-true (length output) 65535 l);
+            rw (write-legal (by (x .description)) store (g .0) (x .at) (x .pos) [] (omega arith) (zeros n) (blank-lent n (g .1))) at e;
+        writes = λ n x e v l p h. write-legal (by (x .description)) store (accepted-legal n x e .0) (x .at) (x .pos) v (leb-true (length v) 65535 l) p h;
+        clears = λ n x e p h. clear-legal (by (x .description)) store (accepted-legal n x e .0) (x .at) (x .pos) p h;
+        reads = λ n x e payload output h l. read-legal (by (x .description)) store (accepted-legal n x e .0) (x .at) (x .pos) payload output h (leb-true (length output) 65535 l);
       }
 
 pub demand-3 : Demand3

@@ -21,14 +21,13 @@ use Rattle.bits.specs.Bits.{bitAt}
 use Rattle.masks.specs.Mask.{Mask, noMask, plainMask, condensedMask}
 use Rattle.field.specs.declared.Shape.the-variants.{Standard}
 use Rattle.field.specs.Field.{Field, field, maskIn}
-use Rattle.record.specs.Parsing.{codedIn}
 use Rattle.record.specs.Recorded.{wellFormed}
 use Rattle.pack.specs.Source.{effectiveMask, sizeUnder}
 use Rattle.payload.specs.Payload.{Payload, payloadOf}
 use Rattle.readers.specs.Finding.{decodeOf}
 use Rattle.writers.specs.Shapes.{encodeOf}
 use Rattle.clear.specs.Clear.{clearOf}
-use Rattle.calls.specs.Calls.{Description, byType, byRecord, decoded, encoded, clearedField}
+use Rattle.calls.specs.Calls.{Description, byType, byRecord, codedSaid, decoded, encoded, clearedField}
 use Rattle.ownership.specs.Ownership.{Cut, owns}
 
 -- ---- a field at its place
@@ -85,7 +84,7 @@ fieldWay =
       lends = λ m. true;
     }
 
--- the bit length of StandardLength; of another variant 0, and no field has 0 bits
+-- the bit length of StandardLength; of another variant 0, and a field of 0 bits is not accepted
 abbrev pub standardLength : DiagCodedTypeVariant → ℕ
 standardLength (LeadingLengthInfo bits) = 0
 standardLength (MinMaxLength m) = 0
@@ -108,12 +107,11 @@ placedAs (refuses r) store at pos = record { type = UInt32; order = Keep; len = 
 
 -- the coded type that a description says
 abbrev pub codedAs : Description → Outcome DiagCodedType
-codedAs (byType t) = gives t
-codedAs (byRecord bytes) = wellFormed (codedIn bytes)
+codedAs d = wellFormed (codedSaid d)
 
 -- a description, a byte and a bit position
 pub record Located (A : Type 0) : Type 0 where
-  pub described : A
+  pub description : A
   pub at : ℕ
   pub pos : ℕ
 
@@ -122,10 +120,10 @@ abbrev pub callWay : {A : Type 0} → (A → Description) → List ℕ → Way
 callWay {A} by store =
     record {
       Told = Located A;
-      says = λ x. placedAs (codedAs (by (x .described))) store (x .at) (x .pos);
-      write = λ x v p. encoded (by (x .described)) store v p (x .at) (x .pos);
-      clear = λ x p. clearedField (by (x .described)) store p (x .at) (x .pos);
-      readBack = λ x xs output. decoded (by (x .described)) store xs (x .at) (x .pos) output;
+      says = λ x. placedAs (codedAs (by (x .description))) store (x .at) (x .pos);
+      write = λ x v p. encoded (by (x .description)) store v p (x .at) (x .pos);
+      clear = λ x p. clearedField (by (x .description)) store p (x .at) (x .pos);
+      readBack = λ x xs output. decoded (by (x .description)) store xs (x .at) (x .pos) output;
       lends = λ m. leb m sliceLimit;
     }
 
@@ -183,25 +181,25 @@ pub record Exact (len : ℕ) (v : List ℕ) : Type 0 where
 
 module _ (w : Way) where
   -- what a call is told of a field, and the value that this is to have
-  pub record Entry : Type 0 where
+  pub record Assignment : Type 0 where
     pub told : w .Told
     pub value : List ℕ
 
-  abbrev pub with : w .Told → List ℕ → Entry
+  abbrev pub with : w .Told → List ℕ → Assignment
   with x v = record { told = x; value = v }
 
-  abbrev pub writeEntry : Entry → Payload → Answer Payload
-  writeEntry e p = w .write (e .told) (e .value) p
+  abbrev pub writeAssignment : Assignment → Payload → Answer Payload
+  writeAssignment e p = w .write (e .told) (e .value) p
 
   -- one write after the other
-  unfoldable pub build : List Entry → Payload → Payload
+  unfoldable pub build : List Assignment → Payload → Payload
   build [] p = p
-  build (e ∷ l) p = build l (writeEntry e p .left)
+  build (e ∷ l) p = build l (writeAssignment e p .left)
 
   -- each of these writes succeeds
-  unfoldable pub AllSucceed : ℕ → List ℕ → List Entry → Payload → Type 0
+  unfoldable pub AllSucceed : ℕ → List ℕ → List Assignment → Payload → Type 0
   AllSucceed n behind [] p = Unit {0}
-  AllSucceed n behind (e ∷ l) p = Succeeds n behind (writeEntry e p) × AllSucceed n behind l (writeEntry e p .left)
+  AllSucceed n behind (e ∷ l) p = Succeeds n behind (writeAssignment e p) × AllSucceed n behind l (writeAssignment e p .left)
 
   -- one field of what was built is changed: its bits are cleared, and the new value is written
   abbrev pub change : w .Told → List ℕ → Payload → Answer Payload
@@ -216,29 +214,29 @@ module _ (w : Way) where
       && (eqb (numberIn (w .write x [] (zeros n) .report)) 0
       && eqb (w .write x [] (zeros n) .left .used) n))
 
-  unfoldable pub allAccepted : ℕ → List Entry → Bool
+  unfoldable pub allAccepted : ℕ → List Assignment → Bool
   allAccepted n [] = true
   allAccepted n (e ∷ l) = accepted n (e .told) && allAccepted n l
 
   -- each value may be lent
-  unfoldable pub allLent : List Entry → Bool
+  unfoldable pub allLent : List Assignment → Bool
   allLent [] = true
   allLent (e ∷ l) = w .lends (length (e .value)) && allLent l
 
-  unfoldable pub apartFrom : ℕ → Placed → List Entry → Bool
+  unfoldable pub apartFrom : ℕ → Placed → List Assignment → Bool
   apartFrom n f [] = true
   apartFrom n f (e ∷ l) = apart n f (w .says (e .told)) && apartFrom n f l
 
   -- own bits are pairwise disjoint
-  unfoldable pub disjoint : ℕ → List Entry → Bool
+  unfoldable pub disjoint : ℕ → List Assignment → Bool
   disjoint n [] = true
   disjoint n (e ∷ l) = apartFrom n (w .says (e .told)) l && disjoint n l
 
   -- a field with its value between other fields
-  abbrev pub between : List Entry → List Entry → w .Told → List ℕ → List Entry
+  abbrev pub between : List Assignment → List Assignment → w .Told → List ℕ → List Assignment
   between before after x v = before ++ (with x v ∷ after)
 
-  module _ (n : ℕ) (behind : List ℕ) (before after : List Entry) (x : w .Told) (v v′ : List ℕ) (l′ l″ : List Entry) where
+  module _ (n : ℕ) (behind : List ℕ) (before after : List Assignment) (x : w .Told) (v v′ : List ℕ) (l′ l″ : List Assignment) where
     -- l′ is the list of the fields in any order, and l″ in any other, with a new value for one of them
     pub record Premises : Type 0 where
       pub small : n + length behind ≤ 65535
@@ -274,7 +272,7 @@ module _ (w : Way) where
 
   abbrev pub Demand3Of : Type 0
   Demand3Of =
-      (n : ℕ) (behind : List ℕ) (before after : List Entry) (x : w .Told) (v v′ : List ℕ) (l′ l″ : List Entry)
+      (n : ℕ) (behind : List ℕ) (before after : List Assignment) (x : w .Told) (v v′ : List ℕ) (l′ l″ : List Assignment)
       → Premises n behind before after x v v′ l′ l″ → Changed n behind before after x v v′ l′ l″
 
 -- ---- the statement, of the three ways

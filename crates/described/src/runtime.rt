@@ -5,7 +5,7 @@ ghost use Prim.Native.Nat.{_≤_};
 ghost use lib.ListN.{length};
 ghost use denote.Ref.{ptr};
 ghost use Rattle.kinds.specs.Outcomes.{answer};
-ghost use Rattle.kinds.specs.Slices.{behind};
+ghost use Rattle.kinds.specs.Slices.{placeBehind};
 ghost use Rattle.parts.specs.Part.{runtimePart, partAnswer, partStart};
 ghost use Rattle.described.specs.Described.{described};
 use coded::DiagCodedType;
@@ -23,7 +23,7 @@ pub fn part_described<'a>(
 ) -> &'a [u8]
     requires { ⌜ length (now «uds_payload») ≤ 65535 ⌝ }
     ensures { λ r. ⌜ answer (now (number .exit) ∷ now (report .exit)) (now r) ≡ partAnswer (described «coded_type» (now (store .entry)) (λ t. runtimePart (now («uds_payload» .entry)) «byte_pos» («byte_count» .0))) ⌝ }
-    ensures { λ r. ⌜ ptr r ≡ behind (partStart (length (now r)) «byte_pos») (ptr («uds_payload» .entry)) ⌝ }
+    ensures { λ r. ⌜ ptr r ≡ placeBehind (partStart (length (now r)) «byte_pos») (ptr («uds_payload» .entry)) ⌝ }
 {
     match field::validate_description(coded_type, ByteCount(store.len())) {
         Check::Refused(refusal) => parts::no_part(refusal, uds_payload, number, report),

@@ -3,7 +3,7 @@
 ghost use mathlib.Core.Path.{_≡_};
 ghost use lib.ListN.{length};
 ghost use denote.Ref.{ptr};
-ghost use Rattle.kinds.specs.Slices.{behind};
+ghost use Rattle.kinds.specs.Slices.{placeBehind};
 ghost use Rattle.field.specs.Field.{outside, partOf, partAt, startOf, startAt, storePlace, useAt, useOf, shapeOf};
 ghost use Rattle.field.specs.Refusals.{slicesRefusal, placeRefusal, descriptionRefusal};
 use coded::DiagCodedType;
@@ -96,7 +96,7 @@ fn is_outside(place: Place, store_len: ByteCount) -> bool
 // A part of the store, lent on, and the empty part where it is outside.
 fn part<'a>(store: &'a [u8], place: Place) -> &'a [u8]
     ensures { λ r. ⌜ now r ≡ partOf (now (store .entry)) place ⌝ }
-    ensures { λ r. ⌜ ptr r ≡ behind (startOf (length (now (store .entry))) place) (ptr (store .entry)) ⌝ }
+    ensures { λ r. ⌜ ptr r ≡ placeBehind (startOf (length (now (store .entry))) place) (ptr (store .entry)) ⌝ }
 {
     if is_outside(place, ByteCount(store.len())) {
         return &store[..0];
@@ -109,7 +109,7 @@ fn part<'a>(store: &'a [u8], place: Place) -> &'a [u8]
 // The part of the store at an optional place, and the empty part where there is none.
 pub fn part_at<'a>(store: &'a [u8], place: OptionalPlace) -> &'a [u8]
     ensures { λ r. ⌜ now r ≡ partAt (now (store .entry)) place ⌝ }
-    ensures { λ r. ⌜ ptr r ≡ behind (startAt (length (now (store .entry))) place) (ptr (store .entry)) ⌝ }
+    ensures { λ r. ⌜ ptr r ≡ placeBehind (startAt (length (now (store .entry))) place) (ptr (store .entry)) ⌝ }
 {
     match place {
         OptionalPlace::At(there) => part(store, there),

@@ -61,7 +61,7 @@ short e a = 30 ∷ 0 ∷ 0 ∷ e ∷ a ∷ []
 abbrev pub read : ℕ → ℕ → List ℕ
 read bits bytes = 0 ∷ bits ∷ bytes ∷ 0 ∷ 0 ∷ []
 
--- a successful encode or clear
+-- a success that reads nothing
 abbrev pub wrote : List ℕ
 wrote = numbered 0
 

@@ -3,7 +3,6 @@
 pub mod Types
 pub mod Slices
 pub mod Answers
-pub mod Classes
 pub mod Outcomes
 pub mod Refusals
 pub mod CodePlaces

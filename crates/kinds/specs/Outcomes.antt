@@ -54,7 +54,7 @@ pub record Answer (A : Type 0) : Type 0 where
 abbrev pub answer : {A : Type 0} → List ℕ → A → Answer A
 answer report left = record { report = report; left = left }
 
--- a call that refuses leaves all as it came; else its answer is made of what was made
+-- a call that refuses leaves what is old; else its answer is made of what was made
 abbrev pub concluded : {A B : Type 0} → B → (A → Answer B) → Outcome A → Answer B
 concluded old made (gives a) = made a
 concluded old made (lacks expected actual) = answer (short expected actual) old

@@ -19,5 +19,5 @@ abbrev pub cut : ℕ → ℕ → List ℕ → List ℕ
 cut at n xs = take n (drop at xs)
 
 -- a place in memory is a block and an offset: so many bytes behind another
-abbrev pub behind : ℕ → ℕ × ℕ → ℕ × ℕ
-behind n p = (p .0, n + p .1)
+abbrev pub placeBehind : ℕ → ℕ × ℕ → ℕ × ℕ
+placeBehind n p = (p .0, n + p .1)

@@ -8,7 +8,7 @@ use Rattle.kinds.specs.declared.types.DataType.the-variants.{Int32, UInt
 use Rattle.kinds.specs.declared.types.ByteOrder.{ByteOrder}
 use Rattle.kinds.specs.declared.types.ByteOrder.the-variants.{Keep, ReorderPairs, Reverse}
 
--- a data type's code: 1 to 8 in the source's enum order
+-- a data type's code: 1 to 8 in the order of RULES 2.1
 abbrev pub typeCode : DataType → ℕ
 typeCode Int32 = 1
 typeCode UInt32 = 2

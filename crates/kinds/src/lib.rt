@@ -1,9 +1,7 @@
 // Data types, bit lengths, byte counts and byte order by value, with the refusals, the answers, the checks 20 to 25, limits and sums.
-mod classes; // classes.rt: the class of a refusal, told by its number
 mod refusals; // refusals.rt: the numbered refusals, and the answers of a check, a search, a reading and a writing
 mod types; // types.rt: data types, bit lengths, byte counts, byte order, and the checks of position and length
 
-pub use classes::class_of;
 pub use refusals::Check;
 pub use refusals::NOT_ENOUGH_DATA;
 pub use refusals::PosInfo;

@@ -20,7 +20,7 @@ unfoldable pub bigEndian : (ℕ → ℕ) → ℕ → ℕ
 bigEndian f zero = 0
 bigEndian f (suc n) = 256 * bigEndian f n + f n
 
--- a length field is read as one, two, three, four, or five to eight bytes, and is too wide where it has more
+-- a length field is read as one, two, three, four, or five to eight bytes, and is too wide where it has more, or none
 abbrev pub lengthInfo : List ℕ → LengthInfo
 lengthInfo xs = cond (eqb (length xs) 0 || ltb 8 (length xs)) TooWide (Bytes (record { 0 = bigEndian (λ j. getD xs j 0) (length xs) }))
 

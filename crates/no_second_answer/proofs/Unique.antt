@@ -19,7 +19,7 @@ use Rattle.kinds.specs.declared.refusals.Reading.the-variants as reading
 use Rattle.kinds.specs.declared.refusals.Writing.{Writing}
 use Rattle.kinds.specs.declared.refusals.Writing.the-variants as writing
 use Rattle.kinds.specs.Answers.{numberIn, numbered, reportOfCheck, reportOfReading, reportOfWriting}
-use Rattle.kinds.specs.Slices.{behind}
+use Rattle.kinds.specs.Slices.{placeBehind}
 use Rattle.kinds.specs.Outcomes.{Outcome, gives, lacks, refuses, Answer, answer}
 use Rattle.kinds.proofs.Rows.{refusalOf, never-0, never-30, refusal-told}
 use Rattle.coded.specs.declared.variants.MaxLength.{MaxLength}
@@ -42,7 +42,7 @@ use Rattle.parts.specs.Part.{partStart}
 use Rattle.kinds.proofs.refusals.Refusal.number.Reads as refusal-number
 use Rattle.kinds.proofs.refusals.Reading.report.Reads as reading-report
 use Rattle.kinds.proofs.refusals.Writing.report.Reads as writing-report
-use Rattle.kinds.proofs.class_of.Reads as class-of
+use Rattle.classes.proofs.class_of.Reads as class-of
 use Rattle.coded.proofs.coded_type.DiagCodedType.validate.Reads as validate
 use Rattle.coded.proofs.variants.MinMaxLengthType.new.Reads as new-limits
 use Rattle.coded.proofs.variants.MinMaxLengthType.min_length.Reads as min-length
@@ -173,12 +173,12 @@ clear-by-record-one κs args r r′ e e′ h h′ = one-reported reportOfWriting
 pub runtime-read-one : (κs : _) (args : _) (r r′ : _) (e e′ : _) → runtime-read.Learnt κs args r e → runtime-read.Learnt κs args r′ e′ → (_≡_ {A = ℕ × List ℕ × List ℕ} (e .1 .1 .1 .1 .1 .0 .now, e .1 .1 .1 .1 .1 .1 .0 .now, r .now) (e′ .1 .1 .1 .1 .1 .0 .now, e′ .1 .1 .1 .1 .1 .1 .0 .now, r′ .now)) × (r .ptr ≡ r′ .ptr)
 runtime-read-one κs args r r′ e e′ h h′ =
     let same : _≡_ {A = ℕ × List ℕ × List ℕ} (e .1 .1 .1 .1 .1 .0 .now, e .1 .1 .1 .1 .1 .1 .0 .now, r .now) (e′ .1 .1 .1 .1 .1 .0 .now, e′ .1 .1 .1 .1 .1 .1 .0 .now, r′ .now) = one-counted (e .1 .1 .1 .1 .1 .0 .now, e .1 .1 .1 .1 .1 .1 .0 .now, r .now) (e′ .1 .1 .1 .1 .1 .0 .now, e′ .1 .1 .1 .1 .1 .1 .0 .now, r′ .now) (h .0) (h′ .0) in
-    (same, h .1 ∙ ap (λ (q : ℕ × List ℕ × List ℕ). behind (partStart (length (q .2)) (args .1 .1 .1 .0)) (args .1 .1 .0 .ptr)) same ∙ sym (h′ .1))
+    (same, h .1 ∙ ap (λ (q : ℕ × List ℕ × List ℕ). placeBehind (partStart (length (q .2)) (args .1 .1 .1 .0)) (args .1 .1 .0 .ptr)) same ∙ sym (h′ .1))
 
 pub runtime-read-by-record-one : (κs : _) (args : _) (r r′ : _) (e e′ : _) → runtime-read-by-record.Learnt κs args r e → runtime-read-by-record.Learnt κs args r′ e′ → (_≡_ {A = ℕ × List ℕ × List ℕ} (e .1 .1 .1 .1 .1 .0 .now, e .1 .1 .1 .1 .1 .1 .0 .now, r .now) (e′ .1 .1 .1 .1 .1 .0 .now, e′ .1 .1 .1 .1 .1 .1 .0 .now, r′ .now)) × (r .ptr ≡ r′ .ptr)
 runtime-read-by-record-one κs args r r′ e e′ h h′ =
     let same : _≡_ {A = ℕ × List ℕ × List ℕ} (e .1 .1 .1 .1 .1 .0 .now, e .1 .1 .1 .1 .1 .1 .0 .now, r .now) (e′ .1 .1 .1 .1 .1 .0 .now, e′ .1 .1 .1 .1 .1 .1 .0 .now, r′ .now) = one-counted (e .1 .1 .1 .1 .1 .0 .now, e .1 .1 .1 .1 .1 .1 .0 .now, r .now) (e′ .1 .1 .1 .1 .1 .0 .now, e′ .1 .1 .1 .1 .1 .1 .0 .now, r′ .now) (h .0) (h′ .0) in
-    (same, h .1 ∙ ap (λ (q : ℕ × List ℕ × List ℕ). behind (partStart (length (q .2)) (args .1 .1 .1 .0)) (args .1 .1 .0 .ptr)) same ∙ sym (h′ .1))
+    (same, h .1 ∙ ap (λ (q : ℕ × List ℕ × List ℕ). placeBehind (partStart (length (q .2)) (args .1 .1 .1 .0)) (args .1 .1 .0 .ptr)) same ∙ sym (h′ .1))
 
 -- a key name: number, the bytes of the name, and where it lies
 pub length-key-name-one : (κs : _) (args : _) (r r′ : _) (e e′ : _) → length-key-name.Learnt κs args r e → length-key-name.Learnt κs args r′ e′ → (_≡_ {A = ℕ × List ℕ} (e .1 .1 .0 .now, r .now) (e′ .1 .1 .0 .now, r′ .now)) × (r .ptr ≡ r′ .ptr)

@@ -5,7 +5,7 @@ use Prim.Native.Nat.{ℕ, _+_, _*_, _≤_, _<_}
 use lib.ListN.{length}
 use borrow.Author.Tests.{ne-eqb, lt-ltb, le-ltb}
 use Rattle.kinds.specs.Answers.{wrote, short, read}
-use Rattle.kinds.specs.Slices.{saturatingSum, cut, behind}
+use Rattle.kinds.specs.Slices.{saturatingSum, cut, placeBehind}
 use Rattle.kinds.specs.Outcomes.{Answer, answer}
 use Rattle.kinds.proofs.Cuts.{length-cut}
 use Rattle.parts.specs.Part.{runtimePart, partAnswer, partStart}
@@ -25,9 +25,9 @@ module _ (payload : List ℕ) (at count : ℕ) where
 
     -- and it starts where it is asked for
     pub lies-there : length payload ≤ 65535 → saturatingSum at count ≤ length payload → {k : ℕ} → k ≡ count → (p : ℕ × ℕ)
-        → (p .0, at + p .1) ≡ behind (partStart (length (cut at k payload)) at) p
+        → (p .0, at + p .1) ≡ placeBehind (partStart (length (cut at k payload)) at) p
     lies-there few s ek p = rw (ek, length-cut payload few at count s, ne-eqb count 0 some)
 
 -- the empty part of a refusal lies where the slice does, whatever was asked for
-pub refused-lies : (at : ℕ) (p : ℕ × ℕ) {q : ℕ × ℕ} {n m xs : List ℕ} → answer n xs ≡ answer m [] → q ≡ behind 0 p → q ≡ behind (partStart (length xs) at) p
-refused-lies at p e l = l ∙ ap (λ (a : Answer (List ℕ)). behind (partStart (length (a .left)) at) p) (sym e)
+pub refused-lies : (at : ℕ) (p : ℕ × ℕ) {q : ℕ × ℕ} {n m xs : List ℕ} → answer n xs ≡ answer m [] → q ≡ placeBehind 0 p → q ≡ placeBehind (partStart (length xs) at) p
+refused-lies at p e l = l ∙ ap (λ (a : Answer (List ℕ)). placeBehind (partStart (length (a .left)) at) p) (sym e)

@@ -5,7 +5,7 @@ use mathlib.Core.List.{List, _∷_}
 use Prim.Native.Nat.{ℕ}
 use lib.ListN.{length, drop}
 use Rattle.kinds.specs.Answers.{numberIn}
-use Rattle.kinds.specs.Slices.{behind}
+use Rattle.kinds.specs.Slices.{placeBehind}
 use Rattle.kinds.specs.Outcomes.{Answer}
 use Rattle.parts.specs.Part.{partStart}
 use Rattle.parts.proofs.part.Reads as part
@@ -19,5 +19,5 @@ pub part-one : (κs : _) (args : _) (r r′ : _) (e e′ : _) → part.Learnt κ
 part-one κs args r r′ e e′ h h′ =
     let same = h .0 ∙ sym (h′ .0) in (
       ap shown same,
-      h .1 ∙ ap (λ (a : Answer (List ℕ)). behind (partStart (length (a .left)) (args .1 .0)) (args .0 .ptr)) same ∙ sym (h′ .1),
+      h .1 ∙ ap (λ (a : Answer (List ℕ)). placeBehind (partStart (length (a .left)) (args .1 .0)) (args .0 .ptr)) same ∙ sym (h′ .1),
     )

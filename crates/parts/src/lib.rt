@@ -6,7 +6,7 @@ ghost use lib.ListN.{length};
 ghost use denote.Ref.{ptr};
 ghost use Rattle.kinds.specs.Answers.{refused};
 ghost use Rattle.kinds.specs.Outcomes.{answer};
-ghost use Rattle.kinds.specs.Slices.{behind};
+ghost use Rattle.kinds.specs.Slices.{placeBehind};
 ghost use Rattle.parts.specs.Part.{runtimePart, partAnswer, partStart};
 use kinds::ByteCount;
 use kinds::Refusal;
@@ -19,7 +19,7 @@ pub fn no_part<'a>(
     report: &mut [usize; 4],
 ) -> &'a [u8]
     ensures { λ r. ⌜ answer (now (number .exit) ∷ now (report .exit)) (now r) ≡ answer (refused refusal) [] ⌝ }
-    ensures { λ r. ⌜ ptr r ≡ behind 0 (ptr (lent .entry)) ⌝ }
+    ensures { λ r. ⌜ ptr r ≡ placeBehind 0 (ptr (lent .entry)) ⌝ }
 {
     *number = refusal.number();
     *report = [0, 0, 0, 0];
@@ -36,7 +36,7 @@ pub fn part<'a>(
 ) -> &'a [u8]
     requires { ⌜ length (now «uds_payload») ≤ 65535 ⌝ }
     ensures { λ r. ⌜ answer (now (number .exit) ∷ now (report .exit)) (now r) ≡ partAnswer (runtimePart (now («uds_payload» .entry)) «byte_pos» («byte_count» .0)) ⌝ }
-    ensures { λ r. ⌜ ptr r ≡ behind (partStart (length (now r)) «byte_pos») (ptr («uds_payload» .entry)) ⌝ }
+    ensures { λ r. ⌜ ptr r ≡ placeBehind (partStart (length (now r)) «byte_pos») (ptr («uds_payload» .entry)) ⌝ }
 {
     let count = byte_count.bytes();
     if count == 0 {

@@ -27,7 +27,7 @@ inCutOut o f at n xs = spliced (λ ys. ordered o (f (ordered o ys))) at n xs
 unfoldable pub grown : ℕ → ℕ → List ℕ → List ℕ
 grown used end xs = spliced (λ ys. replicate (length ys) 0) used (end - used) xs
 
--- the cut-out has ceil((bit_pos+length)/8) bytes
+-- the cut-out has ceil((bit_pos+size)/8) bytes
 abbrev pub cutBytes : ℕ → ℕ → ℕ
 cutBytes pos size = bytesFor (pos + size)
 

@@ -24,7 +24,7 @@ use Rattle.record.specs.declared.parsing.OptionalVariant.the-variants as
 use Rattle.record.specs.declared.parsing.OptionalCoded.{OptionalCoded}
 use Rattle.record.specs.declared.parsing.OptionalCoded.the-variants as coded
 
--- type 1 to 8 in the source's enum order
+-- type 1 to 8 in the order of RULES 2.1
 abbrev pub typeOf : ℕ → OptionalType
 typeOf code =
     cond (eqb code 1) (type.Known Int32)
@@ -91,7 +91,7 @@ standardOf n =
 abbrev pub paramOf : Numbers → OptionalVariant
 paramOf n = lacking (hasLimits n || hasMask n || not (eqb (n .length) 0)) (ParamLengthInfo (n .place))
 
--- variant 1 to 4 in the source's order
+-- variant 1 to 4 in the order of RULES 2.2
 abbrev pub variantOf : Numbers → OptionalVariant
 variantOf n =
     cond (eqb (n .variant) 1) (leadingOf n)

@@ -85,7 +85,7 @@ pub fn numbers_of(record: &[u8]) -> Numbers
         most,
         place: Place {
             at: at as usize,
-            len: ByteCount(len as usize),
+            len: ByteCount::of_number(len),
         },
     }
 }

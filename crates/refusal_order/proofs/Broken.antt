@@ -86,7 +86,8 @@ first n others = n ∷ n ∷ others
 
 examples : List Example
 examples =
-    -- what every call refuses first: a store and no record, Unicode2String and UInt32 in MinMax, UInt32 behind a length field, a mask outside the store
+    -- what every call refuses first: a store and no record, Unicode2String and UInt32 in MinMax, UInt32 behind a length field, a mask
+    -- outside the store
     (encodes [] (replicate 32769 0) [] 1 0 0 is first 43 (44 ∷ 42 ∷ 0 ∷ []))
     ∷ (encodes (minMax 6 1 1 0) [] [] 1 0 0 is first 44 (12 ∷ 13 ∷ 11 ∷ 35 ∷ []))
     ∷ (encodes [] [] (0x01 ∷ []) 1 0 9 is first 44 (42 ∷ 26 ∷ 40 ∷ []))

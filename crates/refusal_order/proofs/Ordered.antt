@@ -11,7 +11,7 @@ use Rattle.kinds.specs.Answers.{numberIn, wrote, read}
 use Rattle.kinds.specs.Slices.{saturatingSum}
 use Rattle.kinds.specs.Outcomes.{Outcome, gives, answer}
 use Rattle.coded.specs.declared.coded_type.DiagCodedType.{DiagCodedType}
-use Rattle.coded.specs.Getters.{keyNameOf}
+use Rattle.coded.specs.Getters.{keyPlaceOf}
 use Rattle.field.specs.Field.{fieldOf, partAt}
 use Rattle.table.specs.Table.{fetched}
 use Rattle.parts.specs.Part.{runtimePart}
@@ -70,7 +70,7 @@ module _ (d : Description) (store : List ℕ) where
   in-key-name : numberIn (keyName d store .report) ≡ firstNumber (keyNameOrder d store)
   unfolding keyName
   in-key-name =
-      let own : DiagCodedType → Outcome (List ℕ) = λ t. gives (partAt store (keyNameOf (t .«type_»))) in
+      let own : DiagCodedType → Outcome (List ℕ) = λ t. gives (partAt store (keyPlaceOf (t .«type_»))) in
       concluded-number none [] (answer wrote) (λ name. refl) (called d store 0 0 0 own)
       ∙ called-number none store 0 0 0 [] false own (λ f. []) refl refl (λ t few ten. refl) d
 

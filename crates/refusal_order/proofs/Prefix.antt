@@ -28,7 +28,7 @@ use Rattle.table.specs.declared.OptionalHeader.the-variants as header
 use Rattle.table.specs.declared.Entry.{Entry}
 use Rattle.table.specs.Table.{saidBy, recordPlace, isWrong, entry, recordFetched, fetchedUnder, fetched}
 use Rattle.calls.specs.Calls.{Description, byType, byRecord, called}
-use Rattle.refusal_order.specs.RefusalsInOrder.{Row, firstNumber, anyAbove, isOutside, minOf, maxOf, isMalformed, typeIn, ofCall, fetchOrder}
+use Rattle.refusal_order.specs.RefusalsInOrder.{Row, firstNumber, anyAbove, isOutside, lowerLimit, upperLimit, isMalformed, typeIn, ofCall, fetchOrder}
 use Rattle.refusal_order.proofs.Numbers.{none, ended, step, in-turn}
 
 -- two tests for one number
@@ -53,8 +53,8 @@ NotTen t = (findsItsLength (t .«type_») && isNumeric (t .«base_datatype»)) �
 abbrev descriptionRows : ℕ → DiagCodedType → ℕ → ℕ
 descriptionRows store t n =
     cond (isOutside (storePlace (t .«type_»)) store) 42
-    (cond (someMax (λ n. eqb n 0) (maxOf (t .«type_»))) 12
-    (cond (someMax (λ n. ltb n (minOf (t .«type_»))) (maxOf (t .«type_»))) 13
+    (cond (someMax (λ n. eqb n 0) (upperLimit (t .«type_»))) 12
+    (cond (someMax (λ n. ltb n (lowerLimit (t .«type_»))) (upperLimit (t .«type_»))) 13
     (cond (findsItsLength (t .«type_») && isNumeric (t .«base_datatype»)) 10
     (cond (oddLimits (t .«type_») && isUnicode (t .«base_datatype»)) 11 n))))
 
@@ -64,7 +64,7 @@ module _ {A : Type 0} (k : A → ℕ) where
   place-number place.Absent store o e = e
 
   limits-number : (v : DiagCodedTypeVariant) (o : Outcome A) {n : ℕ} → ended o k ≡ n
-      → ended (after (limitsRefusal v) o) k ≡ cond (someMax (λ n. eqb n 0) (maxOf v)) 12 (cond (someMax (λ n. ltb n (minOf v)) (maxOf v)) 13 n)
+      → ended (after (limitsRefusal v) o) k ≡ cond (someMax (λ n. eqb n 0) (upperLimit v)) 12 (cond (someMax (λ n. ltb n (lowerLimit v)) (upperLimit v)) 13 n)
   limits-number (MinMaxLength m) o e =
       step k (someMax (λ n. eqb n 0) (m .«max_length»)) _ _ o (λ z. step k (someMax (λ n. ltb n (m .«min_length»)) (m .«max_length»)) _ _ o (λ z. e))
   limits-number (LeadingLengthInfo bits) o e = e

@@ -41,7 +41,7 @@ use Rattle.payload.specs.Payload.{Payload}
 use Rattle.payload.specs.Writing.{cutEnd}
 use Rattle.lengths.specs.Refusals.{condensedBits, untilEndOfPdu}
 use Rattle.writers.specs.Shapes.{withTerminator}
-use Rattle.calls.specs.Calls.{Description, byType, byRecord, decoded, encoded, clearedField, runtimeRead, keyName}
+use Rattle.calls.specs.Calls.{Description, codedSaid, recordBytes, decoded, encoded, clearedField, runtimeRead, keyName}
 use Rattle.dct.specs.Boundary.{placesFetched}
 
 -- ---- rows
@@ -71,17 +71,17 @@ isOutside (place.At p) store = outside p store
 isOutside place.Absent store = false
 
 -- the limits of a variant; what has none has no maximum
-abbrev pub minOf : DiagCodedTypeVariant → ℕ
-minOf (MinMaxLength m) = m .«min_length»
-minOf (LeadingLengthInfo bits) = 0
-minOf (StandardLength s) = 0
-minOf (ParamLengthInfo name) = 0
+abbrev pub lowerLimit : DiagCodedTypeVariant → ℕ
+lowerLimit (MinMaxLength m) = m .«min_length»
+lowerLimit (LeadingLengthInfo bits) = 0
+lowerLimit (StandardLength s) = 0
+lowerLimit (ParamLengthInfo name) = 0
 
-abbrev pub maxOf : DiagCodedTypeVariant → MaxLength
-maxOf (MinMaxLength m) = m .«max_length»
-maxOf (LeadingLengthInfo bits) = Unlimited
-maxOf (StandardLength s) = Unlimited
-maxOf (ParamLengthInfo name) = Unlimited
+abbrev pub upperLimit : DiagCodedTypeVariant → MaxLength
+upperLimit (MinMaxLength m) = m .«max_length»
+upperLimit (LeadingLengthInfo bits) = Unlimited
+upperLimit (StandardLength s) = Unlimited
+upperLimit (ParamLengthInfo name) = Unlimited
 
 -- a byte type, bit position not 0
 abbrev pub atBitPosition : DataType → ℕ → Bool
@@ -105,27 +105,22 @@ pub record Lent : Type 0 where
   pub tableWrong : Bool
   pub recordMalformedOrAbsent : Bool
   pub storeLength : ℕ
-  pub described : DiagCodedType
+  pub codedType : DiagCodedType
 
 abbrev pub prefix : Lent → List Row → List Row
 prefix c own =
-    let t = c .described .«base_datatype» in
-    let v = c .described .«type_» in
+    let t = c .codedType .«base_datatype» in
+    let v = c .codedType .«type_» in
     (43 when c .sliceTooLong)
     ∷ (44 when c .usedAboveSlice)
     ∷ (45 when c .tableWrong)
     ∷ (42 when c .recordMalformedOrAbsent)
     ∷ (42 when isOutside (storePlace v) (c .storeLength))
-    ∷ (12 when someMax (λ n. eqb n 0) (maxOf v))
-    ∷ (13 when someMax (λ n. ltb n (minOf v)) (maxOf v))
+    ∷ (12 when someMax (λ n. eqb n 0) (upperLimit v))
+    ∷ (13 when someMax (λ n. ltb n (lowerLimit v)) (upperLimit v))
     ∷ (10 when findsItsLength v && isNumeric t)
     ∷ (11 when oddLimits v && isUnicode t)
     ∷ own
-
--- a coded type, or what the bytes of a record say
-abbrev pub saidIn : Description → OptionalCoded
-saidIn (byType t) = coded.Coded t
-saidIn (byRecord bytes) = codedIn bytes
 
 abbrev pub isMalformed : OptionalCoded → Bool
 isMalformed (coded.Coded t) = false
@@ -137,11 +132,6 @@ typeIn (coded.Coded t) = t
 typeIn coded.Malformed =
     record { «base_datatype» = UInt32; «type_» = ParamLengthInfo (record { at = 0; len = record { 0 = 0 } }); «is_high_low_byte_order» = true }
 
--- the size of a record, which is a slice too
-abbrev pub recordBytes : Description → ℕ
-recordBytes (byType t) = 0
-recordBytes (byRecord bytes) = length bytes
-
 -- a call that takes a description and a store, and slices of these sizes; 45 is of a table alone
 abbrev pub ofCall : Description → List ℕ → List ℕ → Bool → (Field → List Row) → List Row
 ofCall d store sizes usedAbove own =
@@ -150,11 +140,11 @@ ofCall d store sizes usedAbove own =
       sliceTooLong = anyAbove 65535 (recordBytes d ∷ sizes) || ltb 32768 (length store);
       usedAboveSlice = usedAbove;
       tableWrong = false;
-      recordMalformedOrAbsent = isMalformed (saidIn d);
+      recordMalformedOrAbsent = isMalformed (codedSaid d);
       storeLength = length store;
-      described = typeIn (saidIn d);
+      codedType = typeIn (codedSaid d);
     })
-    (own (fieldOf (typeIn (saidIn d)) store))
+    (own (fieldOf (typeIn (codedSaid d)) store))
 
 -- ---- decode: 20; then each variant's; last 41
 
@@ -314,7 +304,7 @@ fetchOrder table number =
       tableWrong = isWrong table h;
       recordMalformedOrAbsent = leb (h .count) number || isMalformed said;
       storeLength = h .«store_len» .0;
-      described = typeIn said;
+      codedType = typeIn said;
     })
     []
 

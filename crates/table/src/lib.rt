@@ -78,7 +78,7 @@ fn read_header(table: &[u8]) -> OptionalHeader
         return OptionalHeader::Malformed;
     }
     let count = read16(table, 5) as usize;
-    let store_len = ByteCount(read16(table, 7) as usize);
+    let store_len = ByteCount::of_number(read16(table, 7));
     let store_bytes = store_len.bytes();
     if 1024 < count {
         return OptionalHeader::Malformed;

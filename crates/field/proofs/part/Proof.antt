@@ -4,7 +4,7 @@ use Prim.Native.Nat.{_+_, _≤_}
 use lib.ListN.{length}
 use native.Mathlib.Nat.{add-sub-cancel-left}
 use native.Mathlib.Omega.{arith}
-use Rattle.kinds.proofs.Cuts.{behind-none}
+use Rattle.kinds.proofs.Cuts.{placeBehind-none}
 use borrow.Author.Tests.{ltb-false}
 use borrow.Author.Needs.{needs}
 use Rattle.field.proofs.part.Statement.{statement}
@@ -23,7 +23,7 @@ slice-aggregate-result c = search needs
 returns : tie.Need-returns
 returns c = (
   rw (sym (c .before .before .is-outside .ensures), c .before .if1 .taken),
-  rw (sym (c .before .before .is-outside .ensures), c .before .if1 .taken) (behind-none _),
+  rw (sym (c .before .before .is-outside .ensures), c .before .if1 .taken) (placeBehind-none _),
 )
 
 bytes-requires : tie.Need-bytes-requires

@@ -1,5 +1,5 @@
 -- `field::part_at` meets its contract.
-use Rattle.kinds.proofs.Cuts.{behind-none}
+use Rattle.kinds.proofs.Cuts.{placeBehind-none}
 use borrow.Author.Needs.{needs}
 use Rattle.field.proofs.part_at.Statement.{statement}
 use Rattle.field.proofs.part_at.Tie as tie
@@ -20,7 +20,7 @@ returns : tie.Need-returns
 returns c = (rw (c .before .before .place .given .1) (c .part .ensures .0), rw (c .before .before .place .given .1) (c .part .ensures .1))
 
 returns-2 : tie.Need-returns-2
-returns-2 c = (rw (c .before .enum-told .given .1), rw (c .before .enum-told .given .1) (behind-none (c .before .before .before .before .args .store .ptr)))
+returns-2 c = (rw (c .before .enum-told .given .1), rw (c .before .enum-told .given .1) (placeBehind-none (c .before .before .before .before .args .store .ptr)))
 
 pub part-at-spec : {M : Type 1} → statement M
 part-at-spec =

@@ -5,7 +5,7 @@ use native.Mathlib.Omega.{arith}
 use lib.ListN.{length}
 use Prim.Native.Nat.{_-_, _≤_}
 use mathlib.Core.Path.{_≡_, sym, ap, _∙_}
-use Rattle.kinds.proofs.Cuts.{behind-none}
+use Rattle.kinds.proofs.Cuts.{placeBehind-none}
 use borrow.Author.Needs.{needs}
 use Rattle.parts.proofs.part.Statement.{statement}
 use Rattle.parts.proofs.part.Tie as tie
@@ -18,7 +18,7 @@ slice-aggregate-result c = search needs
 
 returns : tie.Need-returns
 returns c = let s = c .before .before .before .before .before .args in
-    (part-none (s .uds-payload .now) (s .byte-pos) (s .byte-count .0) (sym (c .before .before .before .bytes .ensures) ∙ c .before .before .if1 .taken), behind-none (s .uds-payload .ptr))
+    (part-none (s .uds-payload .now) (s .byte-pos) (s .byte-count .0) (sym (c .before .before .before .bytes .ensures) ∙ c .before .before .if1 .taken), placeBehind-none (s .uds-payload .ptr))
 
 saturating-add-requires : tie.Need-saturating-add-requires
 saturating-add-requires c κs = search needs
@@ -28,7 +28,7 @@ slice-aggregate-result-2 c = search needs
 
 returns-2 : tie.Need-returns-2
 returns-2 c = let s = c .before .before .before .before .before .before .before .args in
-    (part-short (s .uds-payload .now) (s .byte-pos) (s .byte-count .0) (λ (e : s .byte-count .0 ≡ 0). c .before .before .before .before .if1 .left (c .before .before .before .before .before .bytes .ensures ∙ e)) (c .before .before .before .saturating-add .ensures ∙ ap (saturatingSum (s .byte-pos)) (c .before .before .before .before .before .bytes .ensures)) (c .before .before .if2 .taken), behind-none (s .uds-payload .ptr))
+    (part-short (s .uds-payload .now) (s .byte-pos) (s .byte-count .0) (λ (e : s .byte-count .0 ≡ 0). c .before .before .before .before .if1 .left (c .before .before .before .before .before .bytes .ensures ∙ e)) (c .before .before .before .saturating-add .ensures ∙ ap (saturatingSum (s .byte-pos)) (c .before .before .before .before .before .bytes .ensures)) (c .before .before .if2 .taken), placeBehind-none (s .uds-payload .ptr))
 
 bit-length-requires : tie.Need-bit-length-requires
 bit-length-requires c κs = search needs

@@ -2,8 +2,8 @@
 use Rattle.calls.specs.Calls.{keyName, nameStart}
 use Rattle.field.specs.Field.{partAt, startAt}
 use Rattle.coded.specs.declared.variants.OptionalPlace.{OptionalPlace}
-use Rattle.kinds.specs.Slices.{behind}
-use Rattle.kinds.proofs.Cuts.{behind-none}
+use Rattle.kinds.specs.Slices.{placeBehind}
+use Rattle.kinds.proofs.Cuts.{placeBehind-none}
 use lib.ListN.{length}
 use Rattle.kinds.specs.Outcomes.{answer}
 use Rattle.kinds.specs.Answers.{wrote}
@@ -28,7 +28,7 @@ returns : tie.Need-returns
 unfolding keyName nameStart
 returns c = (
   rw (sym (c .before .before .before .before .before .validate-slices .ensures), c .before .before .before .refusal .given .1, c .before .number .ensures),
-  rw (sym (c .before .before .before .before .before .validate-slices .ensures), c .before .before .before .refusal .given .1) (behind-none _),
+  rw (sym (c .before .before .before .before .before .validate-slices .ensures), c .before .before .before .refusal .given .1) (placeBehind-none _),
 )
 
 enum-told : tie.Need-enum-told
@@ -59,7 +59,7 @@ returns-2 : tie.Need-returns-2
 unfolding keyName nameStart
 returns-2 c = (
   rw (sym (c .before .before .before .before .before .before .before .before .validate-slices .ensures), c .before .before .before .before .before .before .enum-told .given .1, sym (c .before .before .before .before .before .validate-description .ensures), c .before .before .before .refusal2 .given .1, c .before .number2 .ensures),
-  rw (sym (c .before .before .before .before .before .before .before .before .validate-slices .ensures), c .before .before .before .before .before .before .enum-told .given .1, sym (c .before .before .before .before .before .validate-description .ensures), c .before .before .before .refusal2 .given .1) (behind-none _),
+  rw (sym (c .before .before .before .before .before .before .before .before .validate-slices .ensures), c .before .before .before .before .before .before .enum-told .given .1, sym (c .before .before .before .before .before .validate-description .ensures), c .before .before .before .refusal2 .given .1) (placeBehind-none _),
 )
 
 returns-3 : tie.Need-returns-3
@@ -69,7 +69,7 @@ returns-3 c = let store = c .before .before .before .before .before .before .bef
       rw (sym (c .before .before .before .before .before .before .before .validate-slices .ensures), c .before .before .before .before .before .enum-told .given .1, sym (c .before .before .before .before .validate-description .ensures), c .before .before .enum-told2 .given .1)
           (ap (answer wrote) (c .part-at .ensures .0 ∙ ap (partAt store) place)),
       rw (sym (c .before .before .before .before .before .before .before .validate-slices .ensures), c .before .before .before .before .before .enum-told .given .1, sym (c .before .before .before .before .validate-description .ensures), c .before .before .enum-told2 .given .1)
-          (c .part-at .ensures .1 ∙ ap (λ (p : OptionalPlace). behind (startAt (length store) p) (c .before .before .before .before .before .before .before .before .before .args .store .ptr)) place),
+          (c .part-at .ensures .1 ∙ ap (λ (p : OptionalPlace). placeBehind (startAt (length store) p) (c .before .before .before .before .before .before .before .before .before .args .store .ptr)) place),
     )
 
 pub length-key-name-spec : {M : Type 1} → statement M

@@ -1,4 +1,5 @@
 -- `record::numbers_of` meets its contract.
+use mathlib.Core.Path.{_∙_}
 use borrow.Author.Needs.{needs}
 use Rattle.record.proofs.numbers.numbers_of.Statement.{statement}
 use Rattle.record.proofs.numbers.numbers_of.Tie as tie
@@ -33,11 +34,12 @@ shared-slice-read-t13 c = search needs
 cast-t14 : tie.Need-cast-t14
 cast-t14 c = search needs
 
-cast-t15 : tie.Need-cast-t15
-cast-t15 c = search needs
+of-number-requires : tie.Need-of-number-requires
+of-number-requires c κs = search needs
 
 returns : tie.Need-returns
-returns c = cc
+returns c =
+    rw (← (c .before .before .before .before .before .before .before .before .flags-of .ensures), ← (c .before .before .before .before .before .before .before .read32 .ensures), ← (c .before .before .before .before .before .before .read322 .ensures), ← (c .before .before .before .before .before .read16 .ensures .0), ← (c .of-number .ensures ∙ c .before .before .before .before .read162 .ensures .0))
 
 pub numbers-of-spec : {M : Type 1} → statement M
 numbers-of-spec =
@@ -53,5 +55,5 @@ numbers-of-spec =
     shared-slice-read-t11
     shared-slice-read-t13
     cast-t14
-    cast-t15
+    of-number-requires
     returns)

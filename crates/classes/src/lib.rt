@@ -1,6 +1,6 @@
 // The class of a refusal, told by its number.
 ghost use mathlib.Core.Path.{_≡_};
-ghost use Rattle.kinds.specs.Classes.{classLetter};
+ghost use Rattle.classes.specs.Classes.{classLetter};
 
 // The letters of RULES 10's column of classes, as ASCII has them.
 const CLASS_BAD_PAYLOAD: u32 = 66;

@@ -6,12 +6,12 @@ use Prim.Native.Nat.{ℕ, zero, suc, _+_, _≤_, _<_}
 use native.Mathlib.Omega.{arith}
 use borrow.Author.Tests.{eqb-true, ne-eqb, lt-leb}
 use lib.Dec.{eqb}
 use Rattle.kinds.specs.declared.refusals.Refusal.{Refusal}
 use Rattle.kinds.specs.Answers.{numberOf}
-use Rattle.kinds.specs.Classes.{notEnoughData, letter, classOf, classLetter}
+use Rattle.classes.specs.Classes.{notEnoughData, letter, classOf, classLetter}
 use Rattle.kinds.proofs.Compare.{below, same}
 use Rattle.kinds.proofs.Outcomes.{both}
 use Rattle.kinds.proofs.Rows.{refusalOf, of-each-row}
 
 -- ---- a test of k numbers from a on
 

@@ -1,9 +1,9 @@
--- `kinds::class_of` meets its contract.
+-- `classes::class_of` meets its contract.
 use mathlib.Core.Path.{refl, sym}
 use native.Mathlib.Omega.{arith}
-use Rattle.kinds.proofs.Letters.{letter-in, letter-above}
-use Rattle.kinds.proofs.classes.class_of.Statement.{statement}
-use Rattle.kinds.proofs.classes.class_of.Tie as tie
+use Rattle.classes.proofs.Letters.{letter-in, letter-above}
+use Rattle.classes.proofs.class_of.Statement.{statement}
+use Rattle.classes.proofs.class_of.Tie as tie
 
 returns : tie.Need-returns
 returns c = simp (c .match .keys1)

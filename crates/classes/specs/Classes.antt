@@ -2,10 +2,10 @@
 use Prim.Native.Nat.{ℕ}
 use mathlib.Core.Bool.{Bool, cond, _&&_, _||_}
 use lib.Dec.{eqb, leb}
 use Rattle.kinds.specs.declared.refusals.Refusal.{Refusal}
 use Rattle.kinds.specs.declared.refusals.Refusal.the-variants.{NumericWithVariableLength, OddUnicodeLimits, ZeroMaximum, MaximumBelowMinimum, ByteTypeAtBitPosition, ZeroBitLength, IntegerTooLong, Float32Length, Float64Length, UnicodeLength, BitPositionAboveSeven, BitsPastCut, LengthFieldPastPayload, LengthFieldTooWide, CountTooLarge, ScanPastPayload, EmptyUntilEndOfPdu, MaskLongerThanLength, RuntimeLengthNeeded, EmptyLengthField, NotClearable, PayloadLacksRoom, OutputLacksRoom, MalformedRecord, SliceTooLong, UsedPastSlice, MalformedTable}
 
--- BadPayload, NotEnoughData and InvalidDatabase of the source, and ours
+-- BadPayload, NotEnoughData and InvalidDatabase of the Rust, and ours
 pub data Class : Type 0 where
   badPayload : Class
   notEnoughData : Class
@@ -50,13 +50,13 @@ classOf UsedPastSlice = ours
 classOf MalformedTable = ours
 
 -- from a to b
-abbrev within : ℕ → ℕ → ℕ → Bool
-within a b n = leb a n && leb n b
+abbrev fromTo : ℕ → ℕ → ℕ → Bool
+fromTo a b n = leb a n && leb n b
 
 -- the letter of the class of a number, and 0 where no row has that number
 abbrev pub classLetter : ℕ → ℕ
 classLetter n =
     cond (eqb n 30) (letter notEnoughData)
     (cond (eqb n 10 || eqb n 37) (letter invalidDatabase)
-    (cond (within 11 13 n || within 20 27 n || within 31 36 n || eqb n 38) (letter badPayload)
-    (cond (within 39 45 n) (letter ours) 0)))
+    (cond (fromTo 11 13 n || fromTo 20 27 n || fromTo 31 36 n || eqb n 38) (letter badPayload)
+    (cond (fromTo 39 45 n) (letter ours) 0)))

@@ -1,0 +1,2 @@
+-- `Letters` has the laws of the column of classes.
+pub mod Letters
