@@ -128,7 +128,8 @@ pub record ByDescription (d : Description) : Type 0 where
 -- Every public call that can refuse; `new_high_low_byte_order` is `new` with true. A coded type is any at all: also one that no record can
 -- say, and one that `new` would refuse. So is a record: any bytes.
 -- A refused fetch leaves zeros in place of the places that C is told, and a refused `record_of` the old bytes. `new-limits` is the `new` of
--- MinMaxLengthType, and `new` that of DiagCodedType; `validate` gives its coded type back.
+-- MinMaxLengthType, and `new` that of DiagCodedType. `validate` answers a check alone; what passes
+-- it stands here as what is made.
 pub record Demand1 : Type 0 where
   pub by-type : (t : DiagCodedType) → ByDescription (byType t)
   pub by-record : (bytes : List ℕ) → ByDescription (byRecord bytes)
