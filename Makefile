@@ -1,5 +1,5 @@
 # The commands of the repository by name; each is a script that can be called by itself. `make help` lists them.
-.PHONY: help bench test bindings differential performance install
+.PHONY: help bench test bindings differential performance install uninstall wheel
 export PREFIX DESTDIR
 
 help: ## this list
@@ -22,3 +22,9 @@ performance: ## times the library beside the Rust (some minutes)
 
 install: ## puts archive, header and pkg-config file below PREFIX (/usr/local), and that below DESTDIR
 	@library/install
+
+uninstall: ## removes what `make install` put below the same PREFIX and DESTDIR
+	@library/uninstall
+
+wheel: ## builds the Python package as a wheel, into target/wheel
+	@bindings/wheel

@@ -1,7 +1,7 @@
 /* Calls the library as C can: every value of each byte of a record, and records of bytes drawn at random; every length of each
  * slice from 0 to past its limit; positions up to the largest number. Sees that each call ends in an answer or in a refusal
- * that docs/RULES.md knows, that the limits are refused just where they are passed, that a refusal changes nothing, and that each
- * number has its class.
+ * that docs/RULES.md knows, that the limits are refused just where they are passed, that a refusal changes nothing, that an empty
+ * slice may be a null pointer, and that each number has its class, its name and its sentence.
  *
  * Each slice ends where a page ends that cannot be touched, so a byte read or written past it stops the program.
  */
@@ -17,6 +17,9 @@
 enum { ROOM = 17 * 4096, PAGE = 4096, SLICE = 65535, STORE = 32768, RECORD = 16, FILL = 0xA5 };
 
 static uint64_t calls, counted[256];
+
+/* what all answers and reports since it was 0 come to */
+static uint64_t digest;
 
 static void stop(const char *what, uint32_t answer)
 {
@@ -46,6 +49,14 @@ static uint8_t *last(uint8_t *start, size_t length)
     return start + ROOM - length;
 }
 
+/* The same as a call is lent it: by a null pointer where it is empty, if that is tried. */
+static int by_null;
+
+static uint8_t *lent(uint8_t *start, size_t length)
+{
+    return by_null && length == 0 ? NULL : last(start, length);
+}
+
 static uint8_t *records, *stores, *payloads, *inputs, *outputs, *tables;
 
 /* What is asked of a call. */
@@ -66,6 +77,7 @@ static int is_known(uint32_t answer)
 static void judge(uint32_t answer, const struct dct_report *report)
 {
     calls++;
+    digest = 31 * (31 * (31 * (31 * (31 * digest + answer) + report->bit_count) + report->byte_count) + report->expected) + report->actual;
     hold(is_known(answer), "a number that the table of refusals does not have", answer);
     counted[answer]++;
     if (answer != DCT_OK)
@@ -100,8 +112,9 @@ static void decode(const struct question *q)
 {
     struct dct_report report = nothing;
     uint8_t *output = last(outputs, q->output);
-    uint32_t answer = dct_decode(last(records, q->record), q->record, last(stores, q->store), q->store,
-                                 last(payloads, q->payload), q->payload, q->byte_pos, q->bit_pos, output, q->output, &report);
+    uint32_t answer = dct_decode(lent(records, q->record), q->record, lent(stores, q->store), q->store,
+                                 lent(payloads, q->payload), q->payload, q->byte_pos, q->bit_pos, lent(outputs, q->output), q->output,
+                                 &report);
     judge(answer, &report);
     judge_prefix(answer, q, q->payload, q->output, 0);
     hold(report.byte_count <= q->output, "more bytes than the output has", answer);
@@ -113,8 +126,8 @@ static void read_part(const struct question *q)
 {
     struct dct_report report = nothing;
     size_t place = 9;
-    uint32_t answer = dct_read(last(records, q->record), q->record, last(stores, q->store), q->store,
-                               last(payloads, q->payload), q->payload, q->byte_pos, q->output, &place, &report);
+    uint32_t answer = dct_read(lent(records, q->record), q->record, lent(stores, q->store), q->store,
+                               lent(payloads, q->payload), q->payload, q->byte_pos, q->output, &place, &report);
     judge(answer, &report);
     judge_prefix(answer, q, q->payload, 0, 0);
     hold(place <= q->payload && report.byte_count <= q->payload - place, "a part outside the payload", answer);
@@ -129,8 +142,8 @@ static void encode(const struct question *q)
     struct dct_report report = nothing;
     size_t used = q->used;
     uint8_t *payload = last(payloads, q->payload);
-    uint32_t answer = dct_encode(last(records, q->record), q->record, last(stores, q->store), q->store, last(inputs, q->input),
-                                 q->input, payload, q->payload, &used, q->byte_pos, q->bit_pos, &report);
+    uint32_t answer = dct_encode(lent(records, q->record), q->record, lent(stores, q->store), q->store, lent(inputs, q->input),
+                                 q->input, lent(payloads, q->payload), q->payload, &used, q->byte_pos, q->bit_pos, &report);
     judge(answer, &report);
     judge_prefix(answer, q, q->input, q->payload, q->used);
     hold(report.byte_count == 0, "an encode that counts", answer);
@@ -145,7 +158,7 @@ static void clear(const struct question *q)
 {
     struct dct_report report = nothing;
     uint8_t *payload = last(payloads, q->payload);
-    uint32_t answer = dct_clear(last(records, q->record), q->record, last(stores, q->store), q->store, payload, q->payload,
+    uint32_t answer = dct_clear(lent(records, q->record), q->record, lent(stores, q->store), q->store, lent(payloads, q->payload), q->payload,
                                 q->used, q->byte_pos, q->bit_pos, &report);
     judge(answer, &report);
     judge_prefix(answer, q, 0, q->payload, q->used);
@@ -168,7 +181,7 @@ static void all(const struct question *q)
 static uint32_t fetch(size_t length, size_t number)
 {
     size_t places[3] = {9, 9, 9};
-    uint32_t answer = dct_fetch(last(tables, length), length, number, places);
+    uint32_t answer = dct_fetch(lent(tables, length), length, number, places);
     struct dct_report none = {0, 0, 0, 0};
     judge(answer, &none);
     if (length > SLICE)
@@ -279,6 +292,31 @@ static void every_length(void)
         }
 }
 
+/* Every kind of field, with each of its slices empty or not, at a few positions. A null pointer for each empty one changes no answer. */
+static void empty_by_null(void)
+{
+    static const size_t positions[][2] = {{0, 0}, {1, 4}, {11, 0}, {13, 9}};
+    uint64_t digests[2];
+    struct question q;
+    int base, empty, at;
+    for (by_null = 0; by_null < 2; by_null++) {
+        digest = 0;
+        for (base = 0; base < BASES; base++)
+            for (empty = 0; empty < 32; empty++)
+                for (at = 0; at < 4; at++) {
+                    record(bases[base]);
+                    q = usual, q.byte_pos = positions[at][0], q.bit_pos = positions[at][1];
+                    q.record = empty & 1 ? 0 : q.record, q.store = empty & 2 ? 0 : q.store, q.input = empty & 4 ? 0 : q.input;
+                    q.output = empty & 8 ? 0 : q.output, q.payload = empty & 16 ? 0 : q.payload, q.used = empty & 16 ? 0 : q.used;
+                    all(&q);
+                }
+        fetch(0, 0);
+        digests[by_null] = digest;
+    }
+    by_null = 0;
+    hold(digests[0] == digests[1], "an empty slice by a null pointer gets another answer", 0);
+}
+
 /* Every byte of a table, and every length; the numbers of records that it has and that it lacks. */
 static void tables_too(void)
 {
@@ -325,6 +363,8 @@ static void classify(uint32_t number)
 {
     calls++;
     hold(dct_class(number) == class_of(number), "another class than RULES 10 gives it", number);
+    hold((strncmp(dct_name(number), "DCT_", 4) == 0) == is_known(number), "a number with another name", number);
+    hold((strcmp(dct_sentence(number), "an unknown number") != 0) == is_known(number), "a number with another sentence", number);
 }
 
 /* The numbers 70 below and 70 above each power of two, 0 and 2^32 too, which wraps; and numbers drawn at random. */
@@ -346,6 +386,7 @@ int main(void)
     every_byte_of_a_record();
     records_at_random(1000000);
     every_length();
+    empty_by_null();
     tables_too();
     every_class(1000000);
     for (number = 0; number < 256; number++)

@@ -1,14 +1,18 @@
 """Ducatsatchel from Python: reading and writing the coded fields of diagnostic messages.
 
 Every call gets an answer or raises a Refusal with a number. A refusal leaves the payload as it came, and so does every other
-exception. Bytes to be read may be any bytes-like object; numbers are ints from 0 to 2^64-1.
+exception. Bytes to be read may be any bytes-like object; numbers are ints from 0 to 2^64-1, and a bool is no number. What cannot
+be an argument raises a TypeError, a ValueError or a BufferError that starts with the argument's name.
+
+What surprises is told at `decode` and at `encode`, and with the ways around in the repository's README.md.
 """
 import ctypes
 import enum
 import os
+import platform
 from typing import NamedTuple, Union
 
-__version__ = "1.2.0"
+__version__ = "1.3.0"
 
 _MEANINGS = {}
 
@@ -44,22 +48,24 @@ EMPTY_LENGTH_FIELD = _numbered(38, "encode: an empty input behind a length field
 NOT_CLEARABLE = _numbered(39, "clear: not a numeric field of a length that the record tells")
 PAYLOAD_LACKS_ROOM = _numbered(40, "encode: the payload's slice ends before the field does")
 OUTPUT_LACKS_ROOM = _numbered(41, "decode: the output is smaller than what was read")
-MALFORMED_RECORD = _numbered(42, "the record is malformed or absent, or its part is outside the store")
+MALFORMED_RECORD = _numbered(42, "the record is malformed or absent, or its mask or key name is outside the store")
 SLICE_TOO_LONG = _numbered(43, "more than 65,535 bytes, or than 32,768 of the store")
 USED_PAST_SLICE = _numbered(44, "the used length is above the payload's")
 MALFORMED_TABLE = _numbered(45, "the table's mark, version, count, store length or total size is wrong")
 # end of the numbers
 
 _RECORD_LENGTH = 16
-# The first length that is refused for every slice.
-_TOO_LONG = 65536
+# The most bytes that a slice may have; a store has fewer.
+_LONGEST = 65535
+# The machines by their numbers in an ELF header, and by what Python calls them.
+_MACHINES = {62: "x86-64", "x86_64": "x86-64", "AMD64": "x86-64", 183: "aarch64", "aarch64": "aarch64", "arm64": "aarch64"}
 
 
 class Field(NamedTuple):
     """What describes a field: its record, and the store with the masks and key names that records speak of."""
 
     record: bytes
-    store: bytes
+    store: bytes = b""
 
 
 class Reading(NamedTuple):
@@ -79,7 +85,7 @@ class Class(enum.Enum):
 
 
 class Refusal(Exception):
-    """Why a call did nothing. Expected and actual are 0 unless the number is NOT_ENOUGH_DATA."""
+    """Why a call did nothing: its `number`, and what was `expected` and `actual`, which are 0 unless that is NOT_ENOUGH_DATA."""
 
     def __init__(self, number, expected=0, actual=0):
         super().__init__(number, expected, actual)
@@ -111,24 +117,42 @@ class _Report(ctypes.Structure):
 
 
 def _found():
-    """The path of the shared object, or None."""
+    """The path of the shared object; ImportError where there is none."""
     named = os.environ.get("DCT_LIBRARY")
     if named:
-        return os.path.abspath(named)
+        path = os.path.abspath(named)
+        if not os.path.isfile(path):
+            raise ImportError(f"dct: no file {path}, which DCT_LIBRARY names: 'bindings/shared' builds libdct.so")
+        return path
     here = os.path.dirname(os.path.abspath(__file__))
     for place in (here, os.path.join(here, "..", "..", "target", "shared")):
         path = os.path.normpath(os.path.join(place, "libdct.so"))
         if os.path.exists(path):
             return path
-    return None
+    places = "beside dct.py nor in target/shared of the repository"
+    raise ImportError(f"dct: no libdct.so {places}: 'bindings/shared' builds it; or set DCT_LIBRARY to another")
+
+
+def _for_this_machine(path, advice):
+    """ImportError where a file is code for another machine: the loader would say that there is no such file."""
+    with open(path, "rb") as file:
+        head = file.read(20)
+    if len(head) < 20 or not head.startswith(b"\x7FELF"):
+        return
+    number = int.from_bytes(head[18:], "big" if head[5] == 2 else "little")
+    code, here = _MACHINES.get(number), _MACHINES.get(platform.machine())
+    # of two machines that have no name here the loader knows more
+    if code != here:
+        if code == "x86-64":
+            advice = "'library/x86-64 fetch python3' makes a Python that can load it (docs/MACHINES.md)"
+        code, here = code or f"machine {number}", here or platform.machine()
+        raise ImportError(f"dct: {path} is code for {code}, and this Python runs on {here}: {advice}")
 
 
 def _loaded():
-    """The shared object with its functions declared; ImportError where there is none for this machine."""
-    advice = "'bindings/shared' builds libdct.so, for x86-64, and DCT_LIBRARY names another"
+    """The shared object with its functions declared; ImportError where there is none for this machine and of this version."""
+    advice = "'bindings/shared' builds libdct.so, for x86-64; or set DCT_LIBRARY to another"
     path = _found()
-    if path is None:
-        raise ImportError(f"dct: no shared object here; {advice}")
     slice_, number, report = [ctypes.c_char_p, ctypes.c_size_t], ctypes.c_size_t, ctypes.POINTER(_Report)
     numbers = ctypes.POINTER(ctypes.c_size_t)
     takes = {
@@ -140,12 +164,15 @@ def _loaded():
         "dct_class": [ctypes.c_uint32],
     }
     try:
+        _for_this_machine(path, advice)
         library = ctypes.CDLL(path)
-        for name, types in takes.items():
-            function = getattr(library, name)
-            function.argtypes, function.restype = types, ctypes.c_uint32
-    except (OSError, AttributeError) as error:
+    except OSError as error:
         raise ImportError(f"dct: {error}; {advice}") from None
+    for name, types in takes.items():
+        if not hasattr(library, name):
+            raise ImportError(f"dct: {path} has no {name}: it is of another version than dct.py, {__version__}; {advice}")
+        function = getattr(library, name)
+        function.argtypes, function.restype = types, ctypes.c_uint32
     return library
 
 
@@ -154,31 +181,48 @@ _library = _loaded()
 
 def _number(name, value):
     # ctypes would take the lowest 64 bits of any int, without a word
-    if not isinstance(value, int):
+    if not isinstance(value, int) or isinstance(value, bool):
         raise TypeError(f"{name} is {type(value).__name__}, not int")
     if not 0 <= value < 1 << 64:
-        raise ValueError(f"{name} is {value}, not from 0 to 2^64-1")
+        # Python writes no number of thousands of digits
+        shown = value if value.bit_length() < 1000 else f"an int of {value.bit_length()} bits"
+        raise ValueError(f"{name} is {shown}, not from 0 to 2^64-1")
     return value
 
 
-def _lent(*slices):
-    """Pointer and length of each slice, as a call takes them. A copy overlaps nothing, and is not null where it is empty."""
-    arguments = []
-    for buffer in slices:
-        with memoryview(buffer) as view:
-            arguments += [view.tobytes(), view.nbytes]
-    return arguments
+def _view(name, buffer):
+    try:
+        return memoryview(buffer)
+    except TypeError:
+        hint = ": it has the calls itself, and bytes() gives its bytes" if isinstance(buffer, Payload) else ""
+        raise TypeError(f"{name} is {type(buffer).__name__}, not bytes-like{hint}") from None
+    except (ValueError, BufferError) as error:  # it lends nothing now
+        raise type(error)(f"{name}: {error}") from None
+
+
+def _lent(name, buffer):
+    """Pointer and length of a slice, as a call takes them. A copy overlaps nothing, and is not null where it is empty."""
+    with _view(name, buffer) as view:
+        return [view.tobytes(), view.nbytes]
+
+
+def _described(field):
+    """Pointer and length of a field's record, and of its store."""
+    # two bytes could be unpacked too
+    if not isinstance(field, (tuple, list)) or len(field) != 2:
+        raise TypeError(f"field is {type(field).__name__}, not a Field or a pair of record and store")
+    return _lent("field.record", field[0]) + _lent("field.store", field[1])
 
 
 def _flat(payload, written):
     """A view of all bytes of a payload. Whoever takes it has to release it: a bytearray that is viewed cannot be resized."""
-    with memoryview(payload) as view:
+    with _view("payload", payload) as view:
         if written and view.readonly:
-            raise TypeError("the payload is read-only")
+            raise TypeError("payload is read-only; encode and clear write it, so lend a bytearray or another writable buffer")
         if not view.nbytes:
             return memoryview(bytearray())  # a view of no items cannot be cast
         if not view.c_contiguous:
-            raise BufferError("the payload's bytes do not stand side by side")
+            raise BufferError("payload's bytes do not stand side by side")
         return view.cast("B")
 
 
@@ -195,20 +239,23 @@ def _answered(number, report):
 def fetch(table, number):
     """Finds a record of a stored table by its number, from 0, and the table's store."""
     places = (ctypes.c_size_t * 3)()
-    lent = _lent(table)
+    lent = _lent("table", table)
     _answered(_library.dct_fetch(*lent, _number("number", number), places), _Report())
     record, store, store_length = places
     return Field(lent[0][record : record + _RECORD_LENGTH], lent[0][store : store + store_length])
 
 
 def decode(field, payload, byte_pos=0, bit_pos=0, room=65535):
-    """Reads the field at a byte and a bit position of the payload. More than `room` bytes are refused."""
+    """Reads the field at a byte and a bit position of the payload. More than `room` bytes are refused.
+
+    The most significant byte comes first, of low-high fields too. A number is right-aligned, and an Int32 is not sign-extended.
+    """
     position = [_number("byte_pos", byte_pos), _number("bit_pos", bit_pos)]
     # what is longer is refused alike, and may be more than there is memory for
-    room = min(_number("room", room), _TOO_LONG)
-    record, store = field
+    room = min(_number("room", room), _LONGEST + 1)
+    lent = _described(field) + _lent("payload", payload)
     output, report = ctypes.create_string_buffer(room + 1), _Report()
-    number = _library.dct_decode(*_lent(record, store, payload), *position, output, room, ctypes.byref(report))
+    number = _library.dct_decode(*lent, *position, output, room, ctypes.byref(report))
     _answered(number, report)
     return Reading(output[: report.byte_count], report.bit_count)
 
@@ -217,11 +264,16 @@ def encode(field, input, payload, used, byte_pos=0, bit_pos=0):
     """Writes the input as the field at a byte and a bit position of the payload, of which `used` bytes are used.
 
     The payload is a writable buffer and is changed in place; its length is the room there is. Returns the bytes then used.
+
+    The input is most significant byte first, for low-high fields too. In a field of StandardLength a number is right-aligned: a
+    short input gets zeros in front, and of a long one the surplus is dropped there. A byte type is left-aligned. Under a condensed
+    mask a bit that the input lacks is written as 1. Without a mask the bits are ORed into what is there; `clear` takes a number
+    back to zero first. Of 9 or more bits that are no whole bytes some are lost: 12 bits of 0ABC are written as 0A0C. MinMaxLength
+    does not look at its limits, and puts the terminator, which is no part of the input, behind it.
     """
     position = [_number("byte_pos", byte_pos), _number("bit_pos", bit_pos)]
     after = ctypes.c_size_t(_number("used", used))
-    record, store = field
-    lent = _lent(record, store, input)
+    lent = _described(field) + _lent("input", input)
     report = _Report()
     with _flat(payload, written=True) as view:
         room = _room(view)
@@ -234,8 +286,7 @@ def encode(field, input, payload, used, byte_pos=0, bit_pos=0):
 def clear(field, payload, used, byte_pos=0, bit_pos=0):
     """Sets the bits that a numeric field of a given length owns to zero, in place, and no others."""
     numbers = [_number("used", used), _number("byte_pos", byte_pos), _number("bit_pos", bit_pos)]
-    record, store = field
-    lent = _lent(record, store)
+    lent = _described(field)
     report = _Report()
     with _flat(payload, written=True) as view:
         room = _room(view)
@@ -249,9 +300,63 @@ def read(field, payload, byte_pos, byte_count):
     The data are a memoryview of the payload and not a copy, unordered.
     """
     asked = [_number("byte_pos", byte_pos), _number("byte_count", byte_count)]
-    record, store = field
+    lent = _described(field)
     place, report = ctypes.c_size_t(), _Report()
     with _flat(payload, written=False) as view:
-        number = _library.dct_read(*_lent(record, store, view), *asked, ctypes.byref(place), ctypes.byref(report))
+        lent += _lent("payload", view)
+        number = _library.dct_read(*lent, *asked, ctypes.byref(place), ctypes.byref(report))
         _answered(number, report)
         return Reading(view[place.value : place.value + report.byte_count], report.bit_count)
+
+
+class Payload:
+    """A payload that grows by itself, up to the 65,535 bytes that a slice may have; all of its bytes are used.
+
+    Its methods answer and refuse as the functions do: `encode` and `clear` as on a buffer of that length, `decode` and `read` as on
+    the bytes that it holds. What they hand out are copies, also the data of `read`, so that the payload can go on growing.
+    """
+
+    __hash__ = None  # it changes
+
+    def __init__(self, data=b""):
+        """Takes a copy of the data; more than 65,535 bytes are refused as the calls would refuse them."""
+        self._bytes = _lent("data", data)[0]
+        if len(self._bytes) > _LONGEST:
+            raise Refusal(SLICE_TOO_LONG)
+
+    def encode(self, field, input, byte_pos=0, bit_pos=0):
+        """Writes the input as the field, as the function does. Returns the bytes then used, which is the length."""
+        room = bytearray(self._bytes.ljust(_LONGEST, b"\0"))
+        used = encode(field, input, room, len(self._bytes), byte_pos, bit_pos)
+        self._bytes = bytes(room[:used])
+        return used
+
+    def clear(self, field, byte_pos=0, bit_pos=0):
+        """Sets the bits that a numeric field of a given length owns to zero, and no others."""
+        room = bytearray(self._bytes)
+        clear(field, room, len(room), byte_pos, bit_pos)
+        self._bytes = bytes(room)
+
+    def decode(self, field, byte_pos=0, bit_pos=0):
+        """Reads the field at a byte and a bit position."""
+        return decode(field, self._bytes, byte_pos, bit_pos)
+
+    def read(self, field, byte_pos, byte_count):
+        """Finds so many bytes at a byte position, for a field whose length was read before. The data are a copy, unordered."""
+        reading = read(field, self._bytes, byte_pos, byte_count)
+        return reading._replace(data=bytes(reading.data))
+
+    def __len__(self):
+        return len(self._bytes)
+
+    def __bytes__(self):
+        return self._bytes
+
+    def __eq__(self, other):
+        try:
+            return self._bytes == _lent("other", other._bytes if isinstance(other, Payload) else other)[0]
+        except (TypeError, ValueError, BufferError):
+            return NotImplemented
+
+    def __repr__(self):
+        return f"Payload({self._bytes.hex().upper()})"

@@ -1,19 +1,31 @@
 """Holds dct.py to the stored answers of the Rust, to the cases that all bindings share, to include/dct.h, and to its own promises
-on arguments."""
+on arguments and payloads; and the wheel to what pip asks of one."""
+import base64
+import contextlib
+import copy
 import ctypes
 import functools
+import hashlib
 import importlib.util
+import inspect
+import io
 import os
+import pickle
 import re
 import shutil
 import struct
+import subprocess
+import sys
 import tempfile
 import unittest
+import zipfile
 from array import array
 from pathlib import Path
 from typing import NamedTuple
+from unittest import mock
 
 import dct
+import dct_wheel
 
 BINDINGS = Path(__file__).resolve().parent.parent
 ROOT = BINDINGS.parent
@@ -118,6 +130,8 @@ def answered(call, arguments):
 # Where the payload is among the arguments, for the calls that write or lend it, and where the used length is.
 PAYLOAD = {"encode": 3, "clear": 2, "read": 2}
 USED = {"encode": 4}
+# The most bytes that a slice may have.
+LONGEST = 65535
 
 
 def unchanged(call, arguments):
@@ -278,6 +292,92 @@ class Answers(unittest.TestCase):
         self.assertEqual(missing, [], "these never arose")
 
 
+def given(call, *arguments):
+    try:
+        return call(*arguments)
+    except dct.Refusal as refusal:
+        return refusal.args
+
+
+def both_ways(case):
+    """A call of a Payload, and by the function on the most room there is: what each gives, how much is used, and all bytes."""
+    record, store, *rest = case.arguments
+    place, writes = PAYLOAD.get(case.call, 2) - 2, case.call in ("encode", "clear")
+    data = rest.pop(place)
+    if writes:
+        data = data[: rest.pop(place)]
+    elif case.call == "decode":
+        rest.pop()  # how much room the output has
+    data = data[:LONGEST]  # a Payload has no more
+    payload, field = dct.Payload(data), dct.Field(record, store)
+    by_payload = given(getattr(payload, case.call), field, *rest)
+    room = bytearray(data.ljust(LONGEST, b"\0") if writes else data)
+    rest[place:place] = [room, len(data)] if writes else [room]
+    by_function = given(getattr(dct, case.call), field, *rest)
+    used = by_function if type(by_function) is int else len(data)
+    return (by_payload, len(payload), bytes(payload).ljust(len(room), b"\0")), (by_function, used, room)
+
+
+class Growing(unittest.TestCase):
+    """A Payload answers as the functions do, and is a value of its own."""
+
+    def hold(self, call):
+        refused = 0
+        for case in [*stored(), *shared()]:
+            if case.call == call:
+                by_payload, by_function = both_ways(case)
+                refused += type(by_function[0]) is tuple
+                if by_payload != by_function:
+                    self.fail(f"{case.place}, {call}\n  gives {by_payload!s:.400}\n  not   {by_function!s:.400}")
+        self.assertGreater(refused, 100)
+
+    def test_growing_decode(self):
+        self.hold("decode")
+
+    def test_growing_encode(self):
+        self.hold("encode")
+
+    def test_growing_clear(self):
+        self.hold("clear")
+
+    def test_growing_read(self):
+        self.hold("read")
+
+    def test_longest(self):
+        payload = dct.Payload()
+        self.assertEqual(payload.encode(U8, b"\1", LONGEST - 1), LONGEST)
+        self.assertEqual(given(payload.encode, U8, b"\1", LONGEST), (dct.PAYLOAD_LACKS_ROOM, 0, 0))
+        self.assertEqual(payload, bytes(LONGEST - 1) + b"\1")
+        self.assertEqual(given(dct.Payload, bytes(LONGEST + 1)), (dct.SLICE_TOO_LONG, 0, 0))
+        self.assertEqual(len(dct.Payload(bytes(LONGEST))), LONGEST)
+
+    def test_copies(self):
+        lent = bytearray(b"\x62\xF1\x90")
+        payload = dct.Payload(lent)
+        lent[0] = 0
+        data = payload.read(U8, 1, 2).data
+        self.assertEqual(payload.encode(U8, b"\xFF", 2), 3)
+        self.assertEqual((type(data), data), (bytes, b"\xF1\x90"))
+        self.assertEqual(bytes(payload), b"\x62\xF1\xFF")
+        again = copy.copy(payload)
+        again.clear(U8)
+        self.assertEqual((bytes(payload), bytes(again)), (b"\x62\xF1\xFF", b"\0\xF1\xFF"))
+
+    def test_value(self):
+        payload = dct.Payload(memoryview(b"\x62\0\xF1\0\x90")[::2])
+        self.assertEqual((repr(payload), repr(dct.Payload()), len(payload)), ("Payload(62F190)", "Payload()", 3))
+        whole = bytes(payload)
+        for same in (whole, bytearray(whole), memoryview(whole), array("B", whole), dct.Payload(whole)):
+            self.assertTrue(payload == same and same == payload and not payload != same, type(same))
+        for other in (b"\x62\xF1", dct.Payload(b"\x62"), "62F190", 3, None, [0x62, 0xF1, 0x90]):
+            self.assertTrue(payload != other and not payload == other, other)
+        with self.assertRaises(TypeError):
+            hash(payload)
+        with self.assertRaisesRegex(TypeError, "^payload is Payload, not bytes-like: it has the calls itself"):
+            dct.decode(U8, payload)
+        self.assertEqual(dct.Field(U8.record), U8)
+
+
 def header():
     """Name, number and sentence of each number of include/dct.h."""
     text = (ROOT / "include/dct.h").read_text()
@@ -323,6 +423,11 @@ class Numbers(unittest.TestCase):
         self.assertEqual(str(dct.Refusal(12)), "refusal 12: the maximum is 0")
         self.assertEqual(str(dct.Refusal(77)), "refusal 77: an unknown number")
 
+    def test_refusal_copied(self):
+        refusal = dct.Refusal(30, 5, 2)
+        for again in (pickle.loads(pickle.dumps(refusal)), copy.copy(refusal), copy.deepcopy(refusal)):
+            self.assertEqual((type(again), vars(again), str(again)), (dct.Refusal, vars(refusal), str(refusal)))
+
     def test_unknown_number(self):
         class Later:
             """A library with a number that dct.py does not know."""
@@ -336,17 +441,37 @@ class Numbers(unittest.TestCase):
         self.assertEqual(caught.exception.number, 77)
 
 
+GROWING = dct.Payload(b"\x5A\x5A")
+# Each call with arguments that would be taken; a payload of two bytes to be written is at the ellipsis.
+CALLS = [
+    (dct.fetch, [b"DCT\0\1\0\1\0\0" + U8.record, 0]),
+    (dct.decode, [U8, b"\1\2", 0, 0, 4]),
+    (dct.encode, [U8, b"\1", ..., 2, 0, 0]),
+    (dct.clear, [U8, ..., 2, 0, 0]),
+    (dct.read, [U8, b"\1\2", 0, 1]),
+    (dct.Payload, [b"\1"]),
+    (GROWING.encode, [U8, b"\1", 0, 0]),
+    (GROWING.clear, [U8, 0, 0]),
+    (GROWING.decode, [U8, 0, 0]),
+    (GROWING.read, [U8, 0, 1]),
+]
+# What an argument has to be, by its name; all others are numbers.
+KINDS = {"field": "field", "table": "bytes", "payload": "bytes", "input": "bytes", "data": "bytes"}
+
+
 class Arguments(unittest.TestCase):
     """What is no argument raises before the call, and what is one keeps the duties of a caller."""
 
-    def refuses(self, errors, call, *arguments):
+    def refuses(self, error, said, call, *arguments):
         payload, raised = bytearray(b"\x5A\x5A"), None
         try:
             call(*[payload if argument is Ellipsis else argument for argument in arguments])
-        except Exception as error:
-            raised = error
-        self.assertIsInstance(raised, errors, f"{call.__name__} {arguments}")
+        except Exception as caught:
+            raised = caught
+        self.assertIsInstance(raised, error, f"{call.__name__} has not said: {said}")
+        self.assertTrue(str(raised).startswith(said), f"{call.__name__} says: {raised}, not: {said}")
         self.assertEqual(payload, b"\x5A\x5A")
+        self.assertEqual(GROWING, b"\x5A\x5A")
         self.grow(payload)
 
     def grow(self, payload):
@@ -355,47 +480,56 @@ class Arguments(unittest.TestCase):
         except BufferError:
             self.fail("the payload is still viewed")
 
+    def each(self, kind, wrong, error, said):
+        """Puts what is wrong in the place of each argument of a kind, in each call; what is said starts with its name."""
+        for call, arguments in CALLS:
+            names = list(inspect.signature(call).parameters)
+            self.assertEqual(len(names), len(arguments), call.__name__)
+            for place, name in enumerate(names):
+                if KINDS.get(name, "number") == kind:
+                    self.refuses(error, f"{name}{said}", call, *arguments[:place], wrong, *arguments[place + 1 :])
+
     def test_not_a_number(self):
-        # each would do something, were it taken by its lowest 64 bits; the payload is at the ellipsis
-        calls = [
-            (dct.fetch, [b"DCT\0\1\0\1\0\0" + U8.record, 0], [1]),
-            (dct.decode, [U8, b"\1\2", 0, 0, 4], [2, 3, 4]),
-            (dct.encode, [U8, b"\1", ..., 2, 0, 0], [3, 4, 5]),
-            (dct.clear, [U8, ..., 2, 0, 0], [2, 3, 4]),
-            (dct.read, [U8, b"\1\2", 0, 1], [2, 3]),
-        ]
-        for call, arguments, places in calls:
-            for place in places:
-                for wrong in (-1, 1 << 64, -(1 << 64) + 1, (1 << 64) + 1, 1.0, "1", b"1", None):
-                    errors = ValueError if isinstance(wrong, int) else TypeError
-                    self.refuses(errors, call, *arguments[:place], wrong, *arguments[place + 1 :])
+        # each would do something, were it taken by its lowest 64 bits
+        for wrong in (-1, 1 << 64, -(1 << 64) + 1, (1 << 64) + 1):
+            self.each("number", wrong, ValueError, f" is {wrong}, not from 0 to 2^64-1")
+        # of more digits than Python writes
+        self.each("number", -(10**5000), ValueError, " is an int of 16610 bits, not from 0 to 2^64-1")
+        for wrong in (1.0, "1", b"1", None):
+            self.each("number", wrong, TypeError, f" is {type(wrong).__name__}, not int")
+
+    def test_bool_is_no_number(self):
+        for wrong in (True, False):
+            self.each("number", wrong, TypeError, " is bool, not int")
 
     def test_not_bytes(self):
-        for wrong in (5, [1], "text", None):
-            for field in (dct.Field(wrong, b""), dct.Field(U8.record, wrong)):
-                self.refuses(TypeError, dct.decode, field, b"\1")
-                self.refuses(TypeError, dct.encode, field, b"\1", ..., 2)
-                self.refuses(TypeError, dct.clear, field, ..., 2)
-                self.refuses(TypeError, dct.read, field, b"\1", 0, 1)
-            self.refuses(TypeError, dct.fetch, wrong, 0)
-            self.refuses(TypeError, dct.decode, U8, wrong)
-            self.refuses(TypeError, dct.encode, U8, wrong, ..., 2)
-            self.refuses(TypeError, dct.encode, U8, b"\1", wrong, 0)
-            self.refuses(TypeError, dct.clear, U8, wrong, 0)
-            self.refuses(TypeError, dct.read, U8, wrong, 0, 0)
+        released = memoryview(b"\1")
+        released.release()
+        self.each("bytes", released, ValueError, ": ")
+        for wrong in (5, [1], "text", None, dct.Payload(b"\1")):
+            said = f" is {type(wrong).__name__}, not bytes-like"
+            self.each("bytes", wrong, TypeError, said)
+            self.each("field", dct.Field(wrong, b""), TypeError, f".record{said}")
+            self.each("field", [U8.record, wrong], TypeError, f".store{said}")
+
+    def test_not_a_field(self):
+        # the first three could be unpacked as a pair
+        for wrong in (b"\1\2", "12", {1: 2, 3: 4}, U8.record, None, 5, (U8.record,), (*U8, b""), []):
+            self.each("field", wrong, TypeError, f" is {type(wrong).__name__}, not a Field or a pair of record and store")
 
     def test_read_only_payload(self):
         # used lengths that would be refused: the payload is looked at first
+        said = "payload is read-only; encode and clear write it, so lend a bytearray or another writable buffer"
         for payload in (b"\1", memoryview(b"\1"), memoryview(bytearray(1)).toreadonly(), b""):
-            self.refuses(TypeError, dct.encode, U8, b"\2", payload, 9)
-            self.refuses(TypeError, dct.clear, U8, payload, 9)
+            self.refuses(TypeError, said, dct.encode, U8, b"\2", payload, 9)
+            self.refuses(TypeError, said, dct.clear, U8, payload, 9)
 
     def test_payload_in_steps(self):
-        whole = bytearray(b"\x5A" * 8)
+        whole, said = bytearray(b"\x5A" * 8), "payload's bytes do not stand side by side"
         for payload in (memoryview(whole)[::2], memoryview(whole)[::-1]):
-            self.refuses(BufferError, dct.encode, U8, b"\2", payload, 1)
-            self.refuses(BufferError, dct.clear, U8, payload, 1)
-            self.refuses(BufferError, dct.read, U8, payload, 0, 1)
+            self.refuses(BufferError, said, dct.encode, U8, b"\2", payload, 1)
+            self.refuses(BufferError, said, dct.clear, U8, payload, 1)
+            self.refuses(BufferError, said, dct.read, U8, payload, 0, 1)
         self.assertEqual(whole, b"\x5A" * 8)
         self.assertEqual(dct.decode(U8, memoryview(b"\1\2\3\4")[1::2], 1).data, b"\4")
 
@@ -486,6 +620,7 @@ class Import(unittest.TestCase):
 
     SOURCE = Path(dct.__file__)
     BUILT = ROOT / "target/shared/libdct.so"
+    ADVICE = "'bindings/shared' builds libdct.so, for x86-64; or set DCT_LIBRARY to another"
 
     def setUp(self):
         folder = tempfile.TemporaryDirectory()
@@ -504,26 +639,155 @@ class Import(unittest.TestCase):
         self.loads(self.alone, None, beside)
         self.loads(self.alone, self.BUILT, self.BUILT)
 
+    def says(self, library, said):
+        with self.assertRaises(ImportError) as caught:
+            imported(self.alone, library)
+        self.assertEqual(str(caught.exception), said)
+        self.assertNotIn("\n", said)
+
+    def copied(self, change):
+        """The path of a copy of the shared object with changed bytes."""
+        path = self.alone.with_name("changed.so")
+        path.write_bytes(change(self.BUILT.read_bytes()))
+        return path
+
     def test_library_missing(self):
-        # none at all, a name that nothing has, no shared object, and one that lacks a function
-        lacking = self.alone.with_name("lacking.so")
-        lacking.write_bytes(self.BUILT.read_bytes().replace(b"dct_read", b"dct_rest"))
-        for library in (None, "nowhere/libdct.so", self.alone, lacking):
-            with self.assertRaises(ImportError) as caught:
-                imported(self.alone, library)
-            said = str(caught.exception)
-            self.assertIn("'bindings/shared' builds libdct.so", said)
-            self.assertIn("DCT_LIBRARY names another", said)
-            self.assertNotIn("\n", said)
+        places = "no libdct.so beside dct.py nor in target/shared of the repository"
+        self.says(None, f"dct: {places}: 'bindings/shared' builds it; or set DCT_LIBRARY to another")
+        for none in (self.alone.with_name("nowhere.so"), self.alone.parent):
+            self.says(none, f"dct: no file {none}, which DCT_LIBRARY names: 'bindings/shared' builds libdct.so")
+        self.says(self.alone, f"dct: {self.alone}: invalid ELF header; {self.ADVICE}")
+        lacking = self.copied(lambda data: data.replace(b"dct_read", b"dct_rest"))
+        version = f"it is of another version than dct.py, {dct.__version__}"
+        self.says(lacking, f"dct: {lacking} has no dct_read: {version}; {self.ADVICE}")
+
+    def test_library_for_another_machine(self):
+        # the order of bytes, the machine's number, and how it is told
+        for order, number, code in [(1, b"\xB7\0", "aarch64"), (1, b"\xF3\0", "machine 243"), (2, b"\0\x15", "machine 21")]:
+            other = self.copied(lambda data: data[:5] + bytes([order]) + data[6:18] + number + data[20:])
+            self.says(other, f"dct: {other} is code for {code}, and this Python runs on x86-64: {self.ADVICE}")
+        emulated = "'library/x86-64 fetch python3' makes a Python that can load it (docs/MACHINES.md)"
+        for machine, here in [("aarch64", "aarch64"), ("arm64", "aarch64"), ("riscv64", "riscv64")]:
+            with mock.patch("platform.machine", return_value=machine):
+                self.says(self.BUILT, f"dct: {self.BUILT} is code for x86-64, and this Python runs on {here}: {emulated}")
+        with mock.patch("platform.machine", return_value="AMD64"):
+            self.loads(self.alone, self.BUILT, self.BUILT)
+
+
+class Wheel(unittest.TestCase):
+    """The wheel has what pip asks of one, and works where there is no repository."""
+
+    NAME = f"dct-{dct.__version__}-py3-none-linux_x86_64.whl"
+    INFO = f"dct-{dct.__version__}.dist-info"
+    MAKES = f"""#!/bin/sh\necho made\ncd "$(dirname "$0")/.." && mkdir -p target/shared && cp '{Import.BUILT}' target/shared\n"""
+
+    def setUp(self):
+        folder = tempfile.TemporaryDirectory()
+        self.addCleanup(folder.cleanup)
+        self.folder = Path(folder.name).resolve()
+
+    def python(self, *arguments, **more):
+        """Runs Python in a folder where nothing of the repository is found, unless more of the environment says where."""
+        environment = {name: value for name, value in os.environ.items() if name not in ("DCT_LIBRARY", "PYTHONPATH")}
+        environment.update((name, str(value)) for name, value in more.items())
+        # an emulated Python cannot start itself
+        pipe, command = subprocess.PIPE, [os.environ.get("DCT_PYTHON", sys.executable), *map(str, arguments)]
+        return subprocess.run(command, cwd=str(self.folder), env=environment, stdout=pipe, stderr=pipe, universal_newlines=True)
+
+    def repository(self, script):
+        """A repository with nothing but the licence, the folder of dct.py, and a script in the place of bindings/shared."""
+        python = self.folder / "repository/bindings/python"
+        shutil.copytree(str(BINDINGS / "python"), str(python))
+        for name in ("LICENSE", "NOTICE"):
+            (self.folder / "repository" / name).write_text(f"the {name}")
+        (python.parent / "shared").write_text(script)
+        (python.parent / "shared").chmod(0o755)
+        return python / "dct_wheel.py"
+
+    def works(self, folder):
+        """What is in a folder can be imported there, takes the library that it brought, and decodes."""
+        program = "import dct; print(dct.__file__, dct._library._name, dct.decode(dct.Field(%r, b''), b'5Z', 1).data)" % U8.record
+        ran = self.python("-c", program, PYTHONPATH=folder)
+        self.assertEqual((ran.stdout, ran.stderr), (f"{folder}/dct/__init__.py {folder}/dct/libdct.so b'Z'\n", ""))
+
+    @staticmethod
+    def recorded(file):
+        """The line that RECORD has to have of a file; of itself it has no more than the name."""
+        name, data = file
+        if data is None:
+            return f"{name},,"
+        return f"{name},sha256={base64.urlsafe_b64encode(hashlib.sha256(data).digest()).decode().rstrip('=')},{len(data)}"
+
+    def test_wheel(self):
+        maker, wheels = self.repository(self.MAKES), []
+        for folder, library in [("one", {}), ("two", {"DCT_LIBRARY": Import.BUILT})]:
+            ran = self.python(maker, folder, **library)
+            self.assertEqual((ran.stdout, ran.stderr), (f"{folder}/{self.NAME}\n", "" if library else "made\n"))
+            wheels.append((self.folder / folder / self.NAME).read_bytes())
+        self.assertEqual(wheels[0], wheels[1])
+        with zipfile.ZipFile(str(self.folder / "one" / self.NAME)) as archive:
+            files = {name: archive.read(name) for name in archive.namelist()}
+            archive.extractall(str(self.folder / "apart"))
+        lines = files[f"{self.INFO}/RECORD"].decode().splitlines()
+        files[f"{self.INFO}/RECORD"] = None
+        self.assertEqual(sorted(lines), sorted(map(self.recorded, files.items())))
+        names = [f"{self.INFO}/{name}" for name in ("LICENSE", "METADATA", "NOTICE", "RECORD", "WHEEL")]
+        self.assertEqual(sorted(files), [*names, "dct/__init__.py", "dct/libdct.so"])
+        self.assertIn(f"\nName: dct\nVersion: {dct.__version__}\n", files[f"{self.INFO}/METADATA"].decode())
+        self.assertIn("\nTag: py3-none-linux_x86_64\n", files[f"{self.INFO}/WHEEL"].decode())
+        self.works(self.folder / "apart")
+
+    @unittest.skipUnless(importlib.util.find_spec("pip"), "this Python has no pip")
+    def test_pip_install(self):
+        source = self.repository(self.MAKES).parent
+        before = sorted(source.rglob("*"))
+        pip = ["-m", "pip", "--isolated", "--disable-pip-version-check", "install", "--no-index", "--no-cache-dir", "--target"]
+        ran = self.python(*pip, self.folder / "there", source, PYTHONDONTWRITEBYTECODE=1)
+        self.assertEqual(ran.returncode, 0, ran.stdout + ran.stderr)
+        self.assertEqual(sorted(source.rglob("*")), before)
+        self.works(self.folder / "there")
+
+    def test_no_wheel(self):
+        maker = self.repository("#!/bin/sh\necho why >&2\nexit 3\n")
+        shared, nowhere = maker.parent.parent / "shared", self.folder / "nowhere.so"
+        ran = self.python(maker, "none")
+        self.assertEqual((ran.returncode, ran.stderr), (3, "why\n"))
+        shared.unlink()
+        alone = f"dct: no {shared}: the wheel is made in the repository, or DCT_LIBRARY names a libdct.so"
+        named = f"dct: no file {nowhere}, which DCT_LIBRARY names: 'bindings/shared' builds libdct.so"
+        for library, said in [({}, alone), ({"DCT_LIBRARY": nowhere}, named)]:
+            ran = self.python(maker, "none", **library)
+            self.assertEqual((ran.returncode, ran.stderr), (1, f"{said}\n"))
+        self.assertEqual(list((self.folder / "none").iterdir()), [])
+
+    def test_no_wheel_for_another_machine(self):
+        with mock.patch("platform.machine", return_value="aarch64"), self.assertRaises(SystemExit) as caught:
+            dct_wheel.build_wheel(str(self.folder))
+        said = "dct: the library is x86-64 code, and this machine is aarch64: see docs/MACHINES.md"
+        self.assertEqual(str(caught.exception), said)
+
+    def test_no_sdist(self):
+        with self.assertRaises(dct_wheel.UnsupportedOperation) as caught:
+            dct_wheel.build_sdist(str(self.folder))
+        self.assertIn("there is no sdist", str(caught.exception))
 
 
 class Readme(unittest.TestCase):
-    """The example of bindings/README.md."""
+    """The examples of bindings/README.md and of README.md."""
+
+    def ran(self, page):
+        """What the example of a page prints, and its lines."""
+        (example,) = re.findall(r"^```python[^\n]*\n(.*?)^```$", page.read_text(), re.MULTILINE | re.DOTALL)
+        with contextlib.redirect_stdout(io.StringIO()) as printed:
+            exec(compile(example, str(page), "exec"), {})
+        return printed.getvalue(), example
 
     def test_readme_example(self):
-        (example,) = re.findall(r"^```python\n(.*?)^```$", (BINDINGS / "README.md").read_text(), re.MULTILINE | re.DOTALL)
-        self.assertIn("assert ", example)
-        exec(compile(example, "README.md", "exec"), {})
+        self.assertIn("assert ", self.ran(BINDINGS / "README.md")[1])
+        page = ROOT / "README.md"
+        printed = self.ran(page)[0]
+        self.assertIn("bytes used", printed)
+        self.assertIn(f"first.py\n{printed}", page.read_text())
 
 
 if __name__ == "__main__":

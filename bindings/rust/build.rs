@@ -1,4 +1,4 @@
-//! Links the archive libdct.a, from the folder that DCT_LIB_DIR names or from where `rt staticlib dct` writes it, and takes the numbers of
+//! Links the archive libdct.a, from the folder that DCT_LIB_DIR names or from where `bindings/shared` builds it, and takes the numbers of
 //! the refusals with their sentences from dct.h, in the folder that DCT_INCLUDE_DIR names or in the repository's.
 use std::path::{Path, PathBuf};
 use std::{env, fs, process};
@@ -16,7 +16,7 @@ fn found(variable: &str, folder: &str, name: &str, advice: &str) -> PathBuf {
     let file = folder.join(name);
     println!("cargo:rerun-if-changed={}", file.display());
     if !file.is_file() {
-        stop(format!("no {name} in {}: {advice}, and {variable} names another folder, by its whole path", folder.display()));
+        stop(format!("no {name} in {}: {advice}; or set {variable} to another folder, by its whole path", folder.display()));
     }
     file
 }
@@ -34,8 +34,27 @@ fn numbers(header: &str) -> String {
         .collect()
 }
 
+/// The archive is code for one machine, and a linker would only say that it finds no function.
+fn see_machine() {
+    let target = |part: &str| env::var(format!("CARGO_CFG_TARGET_{part}")).unwrap_or_default();
+    if target("ARCH") != "x86_64" || target("OS") != "linux" || target("POINTER_WIDTH") != "64" {
+        stop(format!(
+            "the library is code for x86-64 Linux, and this build is for {} {}: 'library/x86-64 cargo' of the repository makes a cargo \
+             that builds for it (docs/MACHINES.md)",
+            target("ARCH"),
+            target("OS")
+        ));
+    }
+}
+
 fn main() {
-    let archive = found("DCT_LIB_DIR", "../../target/staticlib", "libdct.a", "'rt staticlib dct' writes it to target/staticlib of the repository");
+    see_machine();
+    let archive = found(
+        "DCT_LIB_DIR",
+        "../../target/staticlib",
+        "libdct.a",
+        "'bindings/shared' builds it in target/staticlib of the repository",
+    );
     println!("cargo:rustc-link-search=native={}", archive.parent().expect("it is in a folder").display());
     println!("cargo:rustc-link-lib=static=dct");
     let header = found("DCT_INCLUDE_DIR", "../../include", "dct.h", "the repository has it in include");

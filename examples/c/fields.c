@@ -1,8 +1,7 @@
 /* Reads a stored table, and by its records decodes, encodes and clears fields of a payload. Prints what it did, and at the end
  * what a call is told that asks too much. Build it with
  *
- *     rt staticlib dct
- *     gcc -Iinclude examples/c/fields.c target/staticlib/libdct.a -o fields
+ *     gcc examples/c/fields.c $(pkg-config --cflags --libs dct) -o fields
  */
 #include <inttypes.h>
 #include <stdio.h>
@@ -57,7 +56,10 @@ static void decode(const char *name, const struct field *field, const uint8_t *p
     uint32_t answer = dct_decode(field->record, 16, field->store, field->store_length, payload, length, byte_pos, 0, output,
                                  sizeof output, &report);
     if (answer != DCT_OK) {
-        printf("%s: refused with %" PRIu32 ", expected %zu bytes of %zu\n", name, answer, report.expected, report.actual);
+        printf("%s: refusal %" PRIu32 ", %s", name, answer, dct_sentence(answer));
+        if (answer == DCT_NOT_ENOUGH_DATA)
+            printf(" (expected %zu, actual %zu)", report.expected, report.actual);
+        printf("\n");
         return;
     }
     printf("%s, %zu bits", name, report.bit_count);
@@ -100,6 +102,6 @@ int main(void)
 
     decode("engine speed past the end", &field[0], payload, used, 6);
     answer = find(3, &none);
-    printf("record 3: refused with %" PRIu32 "\n", answer);
+    printf("record 3: refusal %" PRIu32 ", %s\n", answer, dct_sentence(answer));
     return 0;
 }

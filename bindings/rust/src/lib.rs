@@ -15,9 +15,6 @@
 //! ```
 #![deny(unsafe_code, missing_docs)]
 
-#[cfg(not(all(target_arch = "x86_64", target_pointer_width = "64")))]
-compile_error!("dct is for 64-bit x86-64 machines: its archive has no code for others");
-
 #[allow(unsafe_code)]
 mod ffi;
 #[allow(unsafe_code)]
@@ -27,9 +24,10 @@ mod refusal;
 
 pub use refusal::{number, Class, Refusal};
 
-/// The README's example, which is run with the other doc tests.
+/// The examples of both READMEs, which are run with the other doc tests.
 #[cfg(doctest)]
 #[doc = include_str!("../../README.md")]
+#[doc = include_str!("../../../README.md")]
 struct Readme;
 
 const RECORD_LENGTH: usize = 16;
@@ -74,6 +72,8 @@ pub fn fetch(table: &[u8], number: usize) -> Result<Field<'_>, Refusal> {
 }
 
 /// Reads the field at a byte and a bit position of the payload into the front of the output. What is behind it stays.
+///
+/// The most significant byte comes first, also of a low-high field, and a number is right-aligned; an Int32 is not sign-extended.
 pub fn decode(
     field: Field<'_>,
     payload: &[u8],
@@ -87,6 +87,11 @@ pub fn decode(
 
 /// Writes the input as the field at a byte and a bit position of the payload, of which `used` bytes are used, and on success
 /// sets `used` to the bytes then used. The slice's length is the room there is.
+///
+/// The input has its most significant byte first, also for a low-high field. In a field of StandardLength a number is right-aligned:
+/// short input is padded with zeros in front, and surplus dropped there; for a byte type both happen at the end; under a condensed
+/// mask a bit that is missing is written as 1. Terminators and length fields are not part of the input. Without a mask a write ORs,
+/// and 9 or more bits that are no whole bytes lose bits. The repository's README has the way around.
 pub fn encode(
     field: Field<'_>,
     input: &[u8],

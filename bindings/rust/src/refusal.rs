@@ -42,8 +42,8 @@ impl Class {
     const ALL: [Class; 4] = [Class::BadPayload, Class::NotEnoughData, Class::InvalidDatabase, Class::Ours];
 }
 
-/// Why a call did nothing.
-#[derive(Clone, Copy, Debug, PartialEq, Eq)]
+/// Why a call did nothing. As text it is its number and its sentence, also where `main` returns it.
+#[derive(Clone, Copy, PartialEq, Eq)]
 pub struct Refusal {
     /// One of [`number`], or one of a later library that this crate does not know.
     pub number: u32,
@@ -73,6 +73,13 @@ impl fmt::Display for Refusal {
             write!(f, " (expected {}, actual {})", self.expected, self.actual)?;
         }
         Ok(())
+    }
+}
+
+// what a `main` that returns an error prints
+impl fmt::Debug for Refusal {
+    fn fmt(&self, f: &mut fmt::Formatter<'_>) -> fmt::Result {
+        fmt::Display::fmt(self, f)
     }
 }
 

@@ -154,4 +154,6 @@ fn refusal_as_text() {
     assert_eq!(text(30), short);
     assert_eq!(text(12), "refusal 12: the maximum is 0");
     assert_eq!(text(77), "refusal 77: an unknown number");
+    // a `main` that returns it prints it so
+    assert_eq!(format!("{:?}", Refusal { number: 30, expected: 5, actual: 2 }), short);
 }
