@@ -18,8 +18,20 @@ enum { ROOM = 17 * 4096, PAGE = 4096, SLICE = 65535, STORE = 32768, RECORD = 16,
 
 static uint64_t calls, counted[256];
 
-/* what all answers and reports since it was 0 come to */
+/* What all that calls gave since it was 0 comes to: numbers, reports, used lengths, places, and the first bytes of what they may write. */
 static uint64_t digest;
+
+static void take(uint64_t number)
+{
+    digest = 31 * digest + number;
+}
+
+static void take_bytes(const uint8_t *bytes, size_t length)
+{
+    size_t i;
+    for (i = 0; i < length && i < 32; i++)
+        take(bytes[i]);
+}
 
 static void stop(const char *what, uint32_t answer)
 {
@@ -77,7 +89,7 @@ static int is_known(uint32_t answer)
 static void judge(uint32_t answer, const struct dct_report *report)
 {
     calls++;
-    digest = 31 * (31 * (31 * (31 * (31 * digest + answer) + report->bit_count) + report->byte_count) + report->expected) + report->actual;
+    take(answer), take(report->bit_count), take(report->byte_count), take(report->expected), take(report->actual);
     hold(is_known(answer), "a number that the table of refusals does not have", answer);
     counted[answer]++;
     if (answer != DCT_OK)
@@ -119,6 +131,7 @@ static void decode(const struct question *q)
     judge_prefix(answer, q, q->payload, q->output, 0);
     hold(report.byte_count <= q->output, "more bytes than the output has", answer);
     hold(is_filled(output + report.byte_count, outputs), "output changed past the result", answer);
+    take_bytes(output, q->output);
     memset(output, FILL, report.byte_count);
 }
 
@@ -135,6 +148,7 @@ static void read_part(const struct question *q)
         hold(report.byte_count == q->output && report.bit_count == 8 * report.byte_count, "another part than asked", answer);
     if (report.byte_count == 0)
         hold(place == 0, "a place without a part", answer);
+    take(place);
 }
 
 static void encode(const struct question *q)
@@ -151,6 +165,7 @@ static void encode(const struct question *q)
         hold(used == q->used && is_filled(payload, payloads), "a refused encode that changed something", answer);
     else
         hold(used >= q->used && used <= q->payload && is_filled(payload + used, payloads), "bytes past the used ones", answer);
+    take(used), take_bytes(payload, q->payload);
     memset(payload, FILL, answer == DCT_OK ? used : 0);
 }
 
@@ -167,6 +182,7 @@ static void clear(const struct question *q)
         hold(is_filled(payload, payloads), "a refused clear that changed something", answer);
     else
         hold(is_filled(payload + q->used, payloads), "bytes past the used ones", answer);
+    take_bytes(payload, q->payload);
     memset(payload, FILL, answer == DCT_OK ? q->used : 0);
 }
 
@@ -191,6 +207,7 @@ static uint32_t fetch(size_t length, size_t number)
     else
         hold(places[0] == 9 + 16 * number && places[0] + 16 <= places[1] && places[1] + places[2] == length, "wrong places",
              answer);
+    take(places[0]), take(places[1]), take(places[2]);
     return answer;
 }
 
@@ -292,7 +309,8 @@ static void every_length(void)
         }
 }
 
-/* Every kind of field, with each of its slices empty or not, at a few positions. A null pointer for each empty one changes no answer. */
+/* Every kind of field, with each of its slices empty or not, at a few positions. A null pointer for each empty one changes
+ * nothing that a call gives or writes. */
 static void empty_by_null(void)
 {
     static const size_t positions[][2] = {{0, 0}, {1, 4}, {11, 0}, {13, 9}};
@@ -314,7 +332,7 @@ static void empty_by_null(void)
         digests[by_null] = digest;
     }
     by_null = 0;
-    hold(digests[0] == digests[1], "an empty slice by a null pointer gets another answer", 0);
+    hold(digests[0] == digests[1], "an empty slice by a null pointer changes what a call gives", 0);
 }
 
 /* Every byte of a table, and every length; the numbers of records that it has and that it lacks. */
