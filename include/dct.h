@@ -1,13 +1,15 @@
 /* Ducatsatchel: reading and writing the coded fields of diagnostic messages.
  *
- * Every call gets an answer or a numbered refusal. A refusal leaves the payload, its used length and the output as they came.
+ * Every call gets an answer or a numbered refusal. A refusal leaves the payload, its used length and the output as they came, and
+ * a value and its bytes too.
  *
  * A record is 16 bytes that describe a field (the project's docs/RECORDS.md tells what each says); a store holds the masks and
  * key names that records speak of. Both stand in a stored table, where dct_fetch finds them.
  *
  * How values stand in inputs and outputs: most significant byte first, also for a low-high field. A number is right-aligned in as
- * many bytes as its bits take, and a read Int32 is not sign-extended: the bits above its length are 0. A terminator and a length
- * field are not part of the input; the call writes them.
+ * many bytes as its bits take, and a read Int32 is not sign-extended: the bits above its length are 0. dct_value_read makes a signed
+ * or a decimal number of such bytes, and dct_value_write the bytes of one. A terminator and a length field are not part of the input;
+ * the call writes them.
  *
  * What surprises, and the way around (the project's README shows each):
  *   - A write of 9 or more bits that are no whole bytes loses bits: 05 A7 written as 12 bits at bit 4 becomes 50 70. Write whole
@@ -23,8 +25,9 @@
  *
  * What the caller owes, since nothing can test it:
  *   - each pointer holds what the length after it says; it may be null where that length is 0;
- *   - used, place, report and places point to what they name;
- *   - nothing that a call writes (output, payload, used, place, report, places) overlaps anything else that it is given.
+ *   - used, place, report and places point to what they name, and so does the value of dct_value_read;
+ *   - nothing that a call writes (output, payload, used, place, report, places, the value of dct_value_read, the bytes of
+ *     dct_value_write) overlaps anything else that it is given.
  *
  * The library keeps nothing between calls: any number of threads may call it at once, as long as nothing that one call writes is
  * lent to another at the same time.
@@ -43,9 +46,9 @@ extern "C" {
 
 /* The version of the library that this header belongs to. Within a major version no number, no name and no parameter changes its
  * meaning; a minor version may add functions and numbers. */
-#define DCT_VERSION "1.3.0"
+#define DCT_VERSION "1.4.0"
 #define DCT_VERSION_MAJOR 1
-#define DCT_VERSION_MINOR 3
+#define DCT_VERSION_MINOR 4
 #define DCT_VERSION_PATCH 0
 
 /* What a call answers: DCT_OK, or the number of its refusal. */
@@ -78,7 +81,10 @@ enum {
     DCT_MALFORMED_RECORD = 42,                /* the record is malformed or absent, or its mask or key name is outside the store */
     DCT_SLICE_TOO_LONG = 43,                  /* more than 65,535 bytes, or than 32,768 of the store */
     DCT_USED_PAST_SLICE = 44,                 /* the used length is above the payload's */
-    DCT_MALFORMED_TABLE = 45                  /* the table's mark, version, count, store length or total size is wrong */
+    DCT_MALFORMED_TABLE = 45,                 /* the table's mark, version, count, store length or total size is wrong */
+    DCT_WIDTH_NOT_ALLOWED = 58,               /* an unknown encoding, a width not allowed, or another byte count than it takes */
+    DCT_VALUE_OUT_OF_RANGE = 59,              /* value_write: the value is outside the range of its encoding and width */
+    DCT_DIGIT_ABOVE_NINE = 60                 /* value_read: a decimal digit is above 9 */
 };
 
 /* The class of a number, a letter. The first three are the errors of the Rust that the library follows. */
@@ -86,7 +92,15 @@ enum {
     DCT_CLASS_BAD_PAYLOAD = 'B',      /* the description, a position, the payload or the input does not fit */
     DCT_CLASS_NOT_ENOUGH_DATA = 'N',  /* the payload is too short */
     DCT_CLASS_INVALID_DATABASE = 'D', /* the description asks for what its variant cannot do */
-    DCT_CLASS_OURS = 'P'              /* no error of the Rust: room, slices, records, tables, clear */
+    DCT_CLASS_OURS = 'P'              /* no error of the Rust: room, slices, records, tables, clear, values */
+};
+
+/* How the bits of a value say a number, for dct_value_read and dct_value_write. w is the value's width, from 2 to 64 bits. */
+enum {
+    DCT_TWOS_COMPLEMENT = 1, /* from -2^(w-1) to 2^(w-1)-1 */
+    DCT_ONES_COMPLEMENT = 2, /* from -(2^(w-1)-1) to 2^(w-1)-1; all ones are read as 0 too */
+    DCT_SIGN_MAGNITUDE = 3,  /* the highest bit is the sign; the same range; the sign alone is read as 0 too */
+    DCT_PACKED_DECIMAL = 4   /* a decimal digit in each 4 bits and no sign, from 0 to 10^(w/4)-1; w is a multiple of 4 */
 };
 
 /* What a call reports besides its number; it is written on every call. The counts are 0 unless something was read, expected
@@ -139,6 +153,20 @@ uint32_t dct_fetch(const uint8_t *table, size_t table_length,
                    size_t number,
                    size_t places[3]);
 
+/* Reads the number that bytes say in an encoding, one of those above, into *value. The bytes are as many as the width takes, the
+ * number right-aligned in them, as a decode gives it; the width is then the report's bit count. Bits above the width are ignored.
+ * That bit count has also the ones of a condensed mask that meet no bit of the field, and then the number may be another: give such
+ * a field whole bytes, and its mask no more of them. */
+uint32_t dct_value_read(uint32_t encoding, size_t width,
+                        const uint8_t *bytes, size_t bytes_length,
+                        int64_t *value);
+
+/* Writes a number in an encoding to the bytes, as an encode takes it. They are as many as the width takes, and each is written: bits
+ * above the width become 0. The number 0 is written as zero bits alone. */
+uint32_t dct_value_write(uint32_t encoding, size_t width,
+                         int64_t value,
+                         uint8_t *bytes, size_t bytes_length);
+
 /* Answers the class of a number that a call answered, one of DCT_CLASS_..., and 0 for DCT_OK and for what is no number of a
  * refusal. */
 uint32_t dct_class(uint32_t number);
@@ -178,6 +206,9 @@ static inline const char *dct_name(uint32_t number)
     case DCT_SLICE_TOO_LONG: return "DCT_SLICE_TOO_LONG";
     case DCT_USED_PAST_SLICE: return "DCT_USED_PAST_SLICE";
     case DCT_MALFORMED_TABLE: return "DCT_MALFORMED_TABLE";
+    case DCT_WIDTH_NOT_ALLOWED: return "DCT_WIDTH_NOT_ALLOWED";
+    case DCT_VALUE_OUT_OF_RANGE: return "DCT_VALUE_OUT_OF_RANGE";
+    case DCT_DIGIT_ABOVE_NINE: return "DCT_DIGIT_ABOVE_NINE";
     default: return "an unknown number";
     }
 }
@@ -215,6 +246,9 @@ static inline const char *dct_sentence(uint32_t number)
     case DCT_SLICE_TOO_LONG: return "more than 65,535 bytes, or than 32,768 of the store";
     case DCT_USED_PAST_SLICE: return "the used length is above the payload's";
     case DCT_MALFORMED_TABLE: return "the table's mark, version, count, store length or total size is wrong";
+    case DCT_WIDTH_NOT_ALLOWED: return "an unknown encoding, a width not allowed, or another byte count than it takes";
+    case DCT_VALUE_OUT_OF_RANGE: return "value_write: the value is outside the range of its encoding and width";
+    case DCT_DIGIT_ABOVE_NINE: return "value_read: a decimal digit is above 9";
     default: return "an unknown number";
     }
 }

@@ -1,7 +1,8 @@
 /* Calls the library as C can: every value of each byte of a record, and records of bytes drawn at random; every length of each
- * slice from 0 to past its limit; positions up to the largest number. Sees that each call ends in an answer or in a refusal
- * that docs/RULES.md knows, that the limits are refused just where they are passed, that a refusal changes nothing, that an empty
- * slice may be a null pointer, and that each number has its class, its name and its sentence.
+ * slice from 0 to past its limit; positions up to the largest number; values of every width in every encoding, and of codes and widths
+ * that are refused. Sees that each call ends in an answer or in a refusal that docs/RULES.md knows, that the limits are refused just
+ * where they are passed, that a refusal changes nothing, that a value is what its bits say, that an empty slice may be a null pointer,
+ * and that each number has its class, its name and its sentence.
  *
  * Each slice ends where a page ends that cannot be touched, so a byte read or written past it stops the program.
  */
@@ -14,11 +15,12 @@
 
 #include "dct.h"
 
-enum { ROOM = 17 * 4096, PAGE = 4096, SLICE = 65535, STORE = 32768, RECORD = 16, FILL = 0xA5 };
+enum { ROOM = 17 * 4096, PAGE = 4096, SLICE = 65535, STORE = 32768, RECORD = 16, FILL = 0xA5, BESIDE = 64 };
 
 static uint64_t calls, counted[256];
 
-/* What all that calls gave since it was 0 comes to: numbers, reports, used lengths, places, and the first bytes of what they may write. */
+/* What all that calls gave since it was 0 comes to: numbers, reports, used lengths, places, values, and the first bytes of what they may
+ * write. */
 static uint64_t digest;
 
 static void take(uint64_t number)
@@ -69,7 +71,7 @@ static uint8_t *lent(uint8_t *start, size_t length)
     return by_null && length == 0 ? NULL : last(start, length);
 }
 
-static uint8_t *records, *stores, *payloads, *inputs, *outputs, *tables;
+static uint8_t *records, *stores, *payloads, *inputs, *outputs, *tables, *values;
 
 /* What is asked of a call. */
 struct question {
@@ -77,7 +79,7 @@ struct question {
     size_t used, byte_pos, bit_pos;
 };
 
-static const struct dct_report nothing = {9, 9, 9, 9};
+static const struct dct_report nothing = {9, 9, 9, 9}, none = {0, 0, 0, 0};
 
 static int is_known(uint32_t answer)
 {
@@ -113,11 +115,16 @@ static void judge_prefix(uint32_t answer, const struct question *q, size_t first
         hold(answer != DCT_SLICE_TOO_LONG && answer != DCT_USED_PAST_SLICE, "43 or 44 within the limits", answer);
 }
 
-/* The bytes from a place to a region's end are still what was filled in. */
+/* The bytes from a place to another, or to a region's end, are still what was filled in. */
+static int is_filled_to(const uint8_t *from, const uint8_t *to)
+{
+    size_t n = (size_t)(to - from);
+    return n == 0 || (from[0] == FILL && memcmp(from, from + 1, n - 1) == 0);
+}
+
 static int is_filled(const uint8_t *from, const uint8_t *start)
 {
-    size_t n = (size_t)(start + ROOM - from);
-    return n == 0 || (from[0] == FILL && memcmp(from, from + 1, n - 1) == 0);
+    return is_filled_to(from, start + ROOM);
 }
 
 static void decode(const struct question *q)
@@ -198,7 +205,6 @@ static uint32_t fetch(size_t length, size_t number)
 {
     size_t places[3] = {9, 9, 9};
     uint32_t answer = dct_fetch(lent(tables, length), length, number, places);
-    struct dct_report none = {0, 0, 0, 0};
     judge(answer, &none);
     if (length > SLICE)
         hold(answer == DCT_SLICE_TOO_LONG, "a table above the limit is 43", answer);
@@ -209,6 +215,100 @@ static uint32_t fetch(size_t length, size_t number)
              answer);
     take(places[0]), take(places[1]), take(places[2]);
     return answer;
+}
+
+/* 43 and 58, which the sizes alone tell. */
+static uint32_t refused_by_size(uint32_t encoding, size_t width, size_t length)
+{
+    int is_encoding = encoding >= DCT_TWOS_COMPLEMENT && encoding <= DCT_PACKED_DECIMAL;
+    int is_width = width >= 2 && width <= 64 && (encoding != DCT_PACKED_DECIMAL || width % 4 == 0);
+    if (length > SLICE)
+        return DCT_SLICE_TOO_LONG;
+    return is_encoding && is_width && length == (width + 7) / 8 ? DCT_OK : DCT_WIDTH_NOT_ALLOWED;
+}
+
+/* The highest number of a width that is allowed, and the lowest. */
+static int64_t highest(uint32_t encoding, size_t width)
+{
+    int64_t number = encoding == DCT_PACKED_DECIMAL ? 0 : INT64_MAX >> (64 - width);
+    size_t digit;
+    for (digit = 0; encoding == DCT_PACKED_DECIMAL && digit < width / 4; digit++)
+        number = 10 * number + 9;
+    return number;
+}
+
+static int64_t lowest(uint32_t encoding, size_t width)
+{
+    if (encoding == DCT_PACKED_DECIMAL)
+        return 0;
+    return -highest(encoding, width) - (encoding == DCT_TWOS_COMPLEMENT);
+}
+
+/* What so many bits from a place on say by themselves. */
+static uint64_t bits(const uint8_t *bytes, size_t length, size_t from, size_t count)
+{
+    uint64_t number = 0;
+    size_t at;
+    for (at = from + count; at > from; at--)
+        number = 2 * number + (uint64_t)(bytes[length - 1 - (at - 1) / 8] >> (at - 1) % 8 & 1);
+    return number;
+}
+
+/* What the bits of a value say: the highest bit counts as the lowest number does, or is a sign, or it is a row of digits. */
+static uint32_t told(uint32_t encoding, size_t width, const uint8_t *bytes, size_t length, int64_t *value)
+{
+    int64_t number = (int64_t)bits(bytes, length, 0, width - 1);
+    int high = bits(bytes, length, width - 1, 1) == 1;
+    size_t digit;
+    if (encoding == DCT_PACKED_DECIMAL)
+        for (number = 0, digit = width / 4; digit > 0; digit--) {
+            if (bits(bytes, length, 4 * digit - 4, 4) > 9)
+                return DCT_DIGIT_ABOVE_NINE;
+            number = 10 * number + (int64_t)bits(bytes, length, 4 * digit - 4, 4);
+        }
+    else if (encoding == DCT_SIGN_MAGNITUDE)
+        number = high ? -number : number;
+    else
+        number += high ? lowest(encoding, width) : 0;
+    *value = number;
+    return DCT_OK;
+}
+
+static void value_read(uint32_t encoding, size_t width, size_t length)
+{
+    static const int64_t before = 0x5A5A5A5A5A5A5A5A;
+    int64_t value[3] = {before, before, before}, wanted = before;
+    uint32_t number = refused_by_size(encoding, width, length);
+    uint32_t answer = dct_value_read(encoding, width, lent(values, length), length, &value[1]);
+    judge(answer, &none);
+    if (number == DCT_OK)
+        number = told(encoding, width, last(values, length), length, &wanted);
+    hold(answer == number, "a value read with another number", answer);
+    hold(value[1] == wanted, "a value that its bytes do not say, or that a refusal changed", answer);
+    hold(value[0] == before && value[2] == before, "something beside the value changed", answer);
+    take((uint64_t)value[1]);
+}
+
+static void value_write(uint32_t encoding, size_t width, int64_t value, size_t length)
+{
+    uint8_t *bytes = last(outputs, length);
+    int64_t again = 0;
+    uint32_t number = refused_by_size(encoding, width, length);
+    uint32_t answer = dct_value_write(encoding, width, value, lent(outputs, length), length);
+    judge(answer, &none);
+    if (number == DCT_OK && (value < lowest(encoding, width) || value > highest(encoding, width)))
+        number = DCT_VALUE_OUT_OF_RANGE;
+    hold(answer == number, "a value written with another number", answer);
+    hold(is_filled_to(bytes - BESIDE, bytes), "bytes before the slice changed", answer);
+    if (answer != DCT_OK) {
+        hold(is_filled(bytes, outputs), "a refused write that changed bytes", answer);
+        return;
+    }
+    hold(told(encoding, width, bytes, length, &again) == DCT_OK && again == value, "bytes that do not say the value", answer);
+    hold(bits(bytes, length, width, 8 * length - width) == 0, "a bit above the width is not 0", answer);
+    hold(value != 0 || bits(bytes, length, 0, width) == 0, "0 is written as its second zero", answer);
+    take_bytes(bytes, length);
+    memset(bytes, FILL, length);
 }
 
 static const uint8_t bases[][RECORD] = {
@@ -309,13 +409,78 @@ static void every_length(void)
         }
 }
 
-/* Every kind of field, with each of its slices empty or not, at a few positions. A null pointer for each empty one changes
- * nothing that a call gives or writes. */
+/* Codes and widths, most of them none: some have the lowest bits of one that is. */
+static const uint32_t codes[] = {0, 1, 2, 3, 4, 5, 6, 257, 65540, 2147483649u, UINT32_MAX - 3, UINT32_MAX};
+static const size_t far_widths[] = {68, 72, 128, 264, 65544, 4294967304u, SIZE_MAX / 2, SIZE_MAX - 55, SIZE_MAX - 7, SIZE_MAX};
+
+enum { CODES = sizeof codes / sizeof codes[0], FAR = sizeof far_widths / sizeof far_widths[0], NEAR = 67 };
+
+static size_t width_at(size_t place)
+{
+    return place < NEAR ? place : far_widths[place - NEAR];
+}
+
+/* Bytes with all bits but one clear or set, or all of them; bytes drawn; digits drawn. One of each where all are refused alike. */
+static void values_read(uint32_t encoding, size_t width, size_t length)
+{
+    size_t count = length < 16 ? length : 16, at, i;
+    uint8_t *bytes = last(values, count);
+    unsigned kind;
+    for (at = refused_by_size(encoding, width, length) == DCT_OK ? 0 : 8 * count; at <= 8 * count; at++)
+        for (kind = 0; kind < 4; kind++) {
+            for (i = 0; i < count; i++)
+                bytes[i] = (uint8_t)(kind < 2 ? 255 * kind : kind == 2 ? drawn() % 256 : 16 * (drawn() % 10) + drawn() % 10);
+            if (kind < 2 && at < 8 * count)
+                bytes[count - 1 - at / 8] ^= (uint8_t)(1 << at % 8);
+            value_read(encoding, width, length);
+        }
+}
+
+/* A number, the one below it and the one above it, on both sides of 0. */
+static void values_near(uint32_t encoding, size_t width, uint64_t number, size_t length)
+{
+    uint64_t near;
+    for (near = number - 1; near != number + 2; near++) {
+        value_write(encoding, width, (int64_t)near, length);
+        value_write(encoding, width, (int64_t)(0 - near), length);
+    }
+}
+
+/* Numbers near each power of two and of ten, so that both ends of each range and what is past them are among them; and numbers drawn.
+ * One power where all are refused alike. */
+static void values_written(uint32_t encoding, size_t width, size_t length)
+{
+    int is_taken = refused_by_size(encoding, width, length) == DCT_OK, bit, digit;
+    uint64_t ten = 1;
+    for (bit = is_taken ? 0 : 63; bit < 64; bit++) {
+        values_near(encoding, width, (uint64_t)1 << bit, length);
+        value_write(encoding, width, (int64_t)drawn() >> bit, length);
+    }
+    for (digit = 0; is_taken && digit <= 16; digit++, ten *= 10)
+        values_near(encoding, width, ten, length);
+}
+
+/* Each code with each width, in slices of every length that a width takes and one more, and at the limit. */
+static void every_value(void)
+{
+    static const size_t lengths[] = {0, 1, 2, 3, 4, 5, 6, 7, 8, 9, SLICE, SLICE + 1, SLICE + 2};
+    size_t code, place, n;
+    for (code = 0; code < CODES; code++)
+        for (place = 0; place < NEAR + FAR; place++)
+            for (n = 0; n < sizeof lengths / sizeof lengths[0]; n++) {
+                values_read(codes[code], width_at(place), lengths[n]);
+                values_written(codes[code], width_at(place), lengths[n]);
+            }
+}
+
+/* Every kind of field, with each of its slices empty or not, at a few positions; and values of every width without a byte. A null
+ * pointer for each empty slice changes nothing that a call gives or writes. */
 static void empty_by_null(void)
 {
     static const size_t positions[][2] = {{0, 0}, {1, 4}, {11, 0}, {13, 9}};
     uint64_t digests[2];
     struct question q;
+    size_t code, place;
     int base, empty, at;
     for (by_null = 0; by_null < 2; by_null++) {
         digest = 0;
@@ -329,6 +494,9 @@ static void empty_by_null(void)
                     all(&q);
                 }
         fetch(0, 0);
+        for (code = 0; code < CODES; code++)
+            for (place = 0; place < NEAR + FAR; place++)
+                value_read(codes[code], width_at(place), 0), value_write(codes[code], width_at(place), 1, 0);
         digests[by_null] = digest;
     }
     by_null = 0;
@@ -372,7 +540,7 @@ static uint32_t class_of(uint32_t number)
         return DCT_CLASS_INVALID_DATABASE;
     if (number == 30)
         return DCT_CLASS_NOT_ENOUGH_DATA;
-    if (number >= 39 && number <= 45)
+    if ((number >= 39 && number <= 45) || (number >= 58 && number <= 60))
         return DCT_CLASS_OURS;
     return number != DCT_OK && is_known(number) ? DCT_CLASS_BAD_PAYLOAD : 0;
 }
@@ -401,11 +569,13 @@ int main(void)
 {
     uint32_t number;
     records = region(), stores = region(), payloads = region(), inputs = region(), outputs = region(), tables = region();
+    values = region();
     every_byte_of_a_record();
     records_at_random(1000000);
     every_length();
     empty_by_null();
     tables_too();
+    every_value();
     every_class(1000000);
     for (number = 0; number < 256; number++)
         if (is_known(number))

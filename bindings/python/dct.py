@@ -1,8 +1,8 @@
 """Ducatsatchel from Python: reading and writing the coded fields of diagnostic messages.
 
 Every call gets an answer or raises a Refusal with a number. A refusal leaves the payload as it came, and so does every other
-exception. Bytes to be read may be any bytes-like object; numbers are ints from 0 to 2^64-1, and a bool is no number. What cannot
-be an argument raises a TypeError, a ValueError or a BufferError that starts with the argument's name.
+exception. Bytes to be read may be any bytes-like object; numbers are ints from 0 to 2^64-1, a value and an encoding are any int, and a
+bool is no number. What cannot be an argument raises a TypeError, a ValueError or a BufferError that starts with the argument's name.
 
 What surprises is told at `decode` and at `encode`, and with the ways around in the repository's README.md.
 """
@@ -12,7 +12,7 @@ import os
 import platform
 from typing import NamedTuple, Union
 
-__version__ = "1.3.0"
+__version__ = "1.4.0"
 
 _MEANINGS = {}
 
@@ -52,11 +52,16 @@ MALFORMED_RECORD = _numbered(42, "the record is malformed or absent, or its mask
 SLICE_TOO_LONG = _numbered(43, "more than 65,535 bytes, or than 32,768 of the store")
 USED_PAST_SLICE = _numbered(44, "the used length is above the payload's")
 MALFORMED_TABLE = _numbered(45, "the table's mark, version, count, store length or total size is wrong")
+WIDTH_NOT_ALLOWED = _numbered(58, "an unknown encoding, a width not allowed, or another byte count than it takes")
+VALUE_OUT_OF_RANGE = _numbered(59, "value_write: the value is outside the range of its encoding and width")
+DIGIT_ABOVE_NINE = _numbered(60, "value_read: a decimal digit is above 9")
 # end of the numbers
 
 _RECORD_LENGTH = 16
 # The most bytes that a slice may have; a store has fewer.
 _LONGEST = 65535
+# The most bytes that a value has.
+_VALUE_LENGTH = 8
 # The machines by their numbers in an ELF header, and by what Python calls them.
 _MACHINES = {62: "x86-64", "x86_64": "x86-64", "AMD64": "x86-64", 183: "aarch64", "aarch64": "aarch64", "arm64": "aarch64"}
 
@@ -82,6 +87,19 @@ class Class(enum.Enum):
     NOT_ENOUGH_DATA = "N"
     INVALID_DATABASE = "D"
     OURS = "P"
+
+
+class Encoding(enum.IntEnum):
+    """How the bits of a value say a number, with the code of include/dct.h. The width w is 2 to 64 bits.
+
+    Two's complement goes from -2^(w-1) to 2^(w-1)-1; one's complement, and sign and magnitude, from -(2^(w-1)-1), and each has a second
+    zero, which is read as 0. Packed decimal has a digit in each 4 bits and no sign: from 0 to 10^(w/4)-1, w a multiple of 4.
+    """
+
+    TWOS_COMPLEMENT = 1
+    ONES_COMPLEMENT = 2
+    SIGN_MAGNITUDE = 3
+    PACKED_DECIMAL = 4
 
 
 class Refusal(Exception):
@@ -154,14 +172,16 @@ def _loaded():
     advice = "'bindings/shared' builds libdct.so, for x86-64; or set DCT_LIBRARY to another"
     path = _found()
     slice_, number, report = [ctypes.c_char_p, ctypes.c_size_t], ctypes.c_size_t, ctypes.POINTER(_Report)
-    numbers = ctypes.POINTER(ctypes.c_size_t)
+    numbers, code, value = ctypes.POINTER(ctypes.c_size_t), ctypes.c_uint32, ctypes.c_int64
     takes = {
         "dct_decode": [*slice_ * 3, number, number, *slice_, report],
         "dct_encode": [*slice_ * 4, numbers, number, number, report],
         "dct_clear": [*slice_ * 3, number, number, number, report],
         "dct_read": [*slice_ * 3, number, number, numbers, report],
         "dct_fetch": [*slice_, number, numbers],
-        "dct_class": [ctypes.c_uint32],
+        "dct_value_read": [code, number, *slice_, ctypes.POINTER(value)],
+        "dct_value_write": [code, number, value, *slice_],
+        "dct_class": [code],
     }
     try:
         _for_this_machine(path, advice)
@@ -179,10 +199,20 @@ def _loaded():
 _library = _loaded()
 
 
-def _number(name, value):
-    # ctypes would take the lowest 64 bits of any int, without a word
+def _int(name, value):
     if not isinstance(value, int) or isinstance(value, bool):
         raise TypeError(f"{name} is {type(value).__name__}, not int")
+    return value
+
+
+def _code(encoding):
+    # ctypes would take the lowest 32 bits of any int; 0 is no encoding either
+    return encoding if 0 <= _int("encoding", encoding) < 1 << 32 else 0
+
+
+def _number(name, value):
+    # ctypes would take the lowest 64 bits of any int, without a word
+    _int(name, value)
     if not 0 <= value < 1 << 64:
         # Python writes no number of thousands of digits
         shown = value if value.bit_length() < 1000 else f"an int of {value.bit_length()} bits"
@@ -218,7 +248,7 @@ def _flat(payload, written):
     """A view of all bytes of a payload. Whoever takes it has to release it: a bytearray that is viewed cannot be resized."""
     with _view("payload", payload) as view:
         if written and view.readonly:
-            raise TypeError("payload is read-only; encode and clear write it, so lend a bytearray or another writable buffer")
+            raise TypeError("payload is read-only, and the call writes it: lend a bytearray or another writable buffer")
         if not view.nbytes:
             return memoryview(bytearray())  # a view of no items cannot be cast
         if not view.c_contiguous:
@@ -248,7 +278,8 @@ def fetch(table, number):
 def decode(field, payload, byte_pos=0, bit_pos=0, room=65535):
     """Reads the field at a byte and a bit position of the payload. More than `room` bytes are refused.
 
-    The most significant byte comes first, of low-high fields too. A number is right-aligned, and an Int32 is not sign-extended.
+    The most significant byte comes first, of low-high fields too. A number is right-aligned, and an Int32 is not sign-extended;
+    `decode_value` gives a signed number.
     """
     position = [_number("byte_pos", byte_pos), _number("bit_pos", bit_pos)]
     # what is longer is refused alike, and may be more than there is memory for
@@ -309,11 +340,70 @@ def read(field, payload, byte_pos, byte_count):
         return Reading(view[place.value : place.value + report.byte_count], report.bit_count)
 
 
+def value_read(encoding, width, data):
+    """Reads the number that the data say, of so many bits.
+
+    The data are as `decode` gives them: as many bytes as the width takes, the number right-aligned. Bits above the width are ignored.
+    """
+    asked = [_code(encoding), _number("width", width)]
+    value = ctypes.c_int64()
+    _answered(_library.dct_value_read(*asked, *_lent("data", data), ctypes.byref(value)), _Report())
+    return value.value
+
+
+def value_write(encoding, width, value):
+    """The bytes that say a number, of so many bits.
+
+    They are as `encode` takes them: as many as the width takes, the number right-aligned. Bits above the width are 0, and 0 is written
+    as zero bits alone.
+    """
+    asked = [_code(encoding), _number("width", width)]
+    fits = -1 << 63 <= _int("value", value) < 1 << 63
+    # a width that takes more is refused with fewer too, and may be more than there is memory for
+    size = min((width + 7) // 8, _VALUE_LENGTH)
+    room = ctypes.create_string_buffer(size + 1)
+    # 0 is in every range, so what is refused before the value is still refused
+    _answered(_library.dct_value_write(*asked, value if fits else 0, room, size), _Report())
+    if not fits:
+        raise Refusal(VALUE_OUT_OF_RANGE)
+    return room[:size]
+
+
+def decode_value(field, encoding, payload, byte_pos=0, bit_pos=0):
+    """Reads the field at a byte and a bit position of the payload as a number. Its width is the bit count that `decode` gives.
+
+    Ones of a condensed mask that meet no bit of the field are counted too, and then the number may be another: give such a field
+    whole bytes, and its mask no more of them.
+
+    What `decode` refuses with a room of 8 bytes is refused first, and so a field of more bytes is refused with 41. A width that the
+    encoding does not allow is refused with 58.
+    """
+    code = _code(encoding)
+    reading = decode(field, payload, byte_pos, bit_pos, _VALUE_LENGTH)
+    return value_read(code, reading.bit_count, reading.data)
+
+
+def encode_value(field, encoding, width, value, payload, used, byte_pos=0, bit_pos=0):
+    """Writes a number of so many bits as the field at a byte and a bit position of the payload, as `encode` does with its bytes.
+
+    What `value_write` refuses is refused first, and then what `encode` does. Returns the bytes then used.
+
+    The width is for the caller to tell: a field under a condensed mask holds as many bits as the mask has ones, any other as many as
+    its length. Another width is not refused, and what is read back may then be another number. Without a condensed mask 9 or more bits
+    that are no whole bytes lose bits, and without any mask a write ORs, as `encode` tells.
+    """
+    # what is no argument raises before the number is refused
+    _number("byte_pos", byte_pos), _number("bit_pos", bit_pos), _number("used", used), _described(field)
+    _flat(payload, written=True).release()
+    return encode(field, value_write(encoding, width, value), payload, used, byte_pos, bit_pos)
+
+
 class Payload:
     """A payload that grows by itself, up to the 65,535 bytes that a slice may have; all of its bytes are used.
 
-    Its methods answer and refuse as the functions do: `encode` and `clear` as on a buffer of that length, `decode` and `read` as on
-    the bytes that it holds. What they hand out are copies, also the data of `read`, so that the payload can go on growing.
+    Its methods answer and refuse as the functions do: `encode`, `encode_value` and `clear` as on a buffer of that length, `decode`,
+    `decode_value` and `read` as on the bytes that it holds. What they hand out are copies, also the data of `read`, so that the
+    payload can go on growing.
     """
 
     __hash__ = None  # it changes
@@ -324,12 +414,20 @@ class Payload:
         if len(self._bytes) > _LONGEST:
             raise Refusal(SLICE_TOO_LONG)
 
-    def encode(self, field, input, byte_pos=0, bit_pos=0):
-        """Writes the input as the field, as the function does. Returns the bytes then used, which is the length."""
+    def _written(self, call, field, what, byte_pos, bit_pos):
+        """Has a function write what it is given to the bytes and all the room behind them, and keeps those then used."""
         room = bytearray(self._bytes.ljust(_LONGEST, b"\0"))
-        used = encode(field, input, room, len(self._bytes), byte_pos, bit_pos)
+        used = call(field, *what, room, len(self._bytes), byte_pos, bit_pos)
         self._bytes = bytes(room[:used])
         return used
+
+    def encode(self, field, input, byte_pos=0, bit_pos=0):
+        """Writes the input as the field, as the function does. Returns the bytes then used, which is the length."""
+        return self._written(encode, field, [input], byte_pos, bit_pos)
+
+    def encode_value(self, field, encoding, width, value, byte_pos=0, bit_pos=0):
+        """Writes a number of so many bits as the field, as the function does. Returns the bytes then used, which is the length."""
+        return self._written(encode_value, field, [encoding, width, value], byte_pos, bit_pos)
 
     def clear(self, field, byte_pos=0, bit_pos=0):
         """Sets the bits that a numeric field of a given length owns to zero, and no others."""
@@ -340,6 +438,10 @@ class Payload:
     def decode(self, field, byte_pos=0, bit_pos=0):
         """Reads the field at a byte and a bit position."""
         return decode(field, self._bytes, byte_pos, bit_pos)
+
+    def decode_value(self, field, encoding, byte_pos=0, bit_pos=0):
+        """Reads the field at a byte and a bit position as a number."""
+        return decode_value(field, encoding, self._bytes, byte_pos, bit_pos)
 
     def read(self, field, byte_pos, byte_count):
         """Finds so many bytes at a byte position, for a field whose length was read before. The data are a copy, unordered."""

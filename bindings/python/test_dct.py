@@ -36,7 +36,16 @@ class Watched:
     """The shared object, each call of which is held to what include/dct.h asks of a caller."""
 
     # which slices a call writes
-    WRITTEN = {"dct_decode": [3], "dct_encode": [3], "dct_clear": [2], "dct_read": [], "dct_fetch": [], "dct_class": []}
+    WRITTEN = {
+        "dct_decode": [3],
+        "dct_encode": [3],
+        "dct_clear": [2],
+        "dct_read": [],
+        "dct_fetch": [],
+        "dct_class": [],
+        "dct_value_read": [],
+        "dct_value_write": [0],
+    }
 
     def __init__(self, library):
         self.library = library
@@ -85,7 +94,8 @@ class Answer(NamedTuple):
     byte_count: int = 0
     used: int = 0  # after an encode
     place: int = 0  # of a part in the payload
-    data: bytes = b""  # what was read; all of the payload after the call; the record
+    value: int = 0  # the number that was read
+    data: bytes = b""  # what was read; all of the payload after the call; the record; the bytes of a value
     store: bytes = b""
 
 
@@ -111,14 +121,20 @@ def answered(call, arguments):
     if call == "fetch":
         field = dct.fetch(*arguments)
         return Answer(data=field.record, store=field.store)
+    if call == "value_read":
+        return Answer(value=dct.value_read(*arguments))
+    if call == "value_write":
+        return Answer(data=dct.value_write(*arguments))
     record, store, *rest = arguments
     field = dct.Field(record, store)
     if call == "decode":
         reading = dct.decode(field, *rest)
         return Answer(data=reading.data, byte_count=len(reading.data), bit_count=reading.bit_count)
-    if call == "encode":
-        used = dct.encode(field, *rest)
-        return Answer(used=used, data=bytes(rest[1]))
+    if call == "decode_value":
+        return Answer(value=dct.decode_value(field, *rest))
+    if call in USED:
+        used = getattr(dct, call)(field, *rest)
+        return Answer(used=used, data=bytes(arguments[PAYLOAD[call]]))
     if call == "clear":
         dct.clear(field, *rest)
         return Answer(data=bytes(rest[0]))
@@ -127,17 +143,19 @@ def answered(call, arguments):
     return Answer(place=place, data=bytes(reading.data), byte_count=len(reading.data), bit_count=reading.bit_count)
 
 
-# Where the payload is among the arguments, for the calls that write or lend it, and where the used length is.
-PAYLOAD = {"encode": 3, "clear": 2, "read": 2}
-USED = {"encode": 4}
+# Where the payload is among the arguments, for the calls that write or lend it or have it behind an encoding, and where the used
+# length is.
+PAYLOAD = {"encode": 3, "encode_value": 5, "clear": 2, "read": 2, "decode_value": 3}
+USED = {"encode": 4, "encode_value": 6}
+# Those that write it.
+WRITES = ("encode", "encode_value", "clear")
 # The most bytes that a slice may have.
 LONGEST = 65535
 
 
 def unchanged(call, arguments):
     """What a call leaves that does nothing."""
-    writes = call in ("encode", "clear")
-    data = bytes(arguments[PAYLOAD[call]]) if writes else b""
+    data = bytes(arguments[PAYLOAD[call]]) if call in WRITES else b""
     return Answer(used=arguments[USED[call]] if call in USED else 0, data=data)
 
 
@@ -201,13 +219,27 @@ def bytes_of(word, names):
 
 
 # Which arguments of a call are bytes (b) and which are numbers (n), and the same of its answer, by the answer's names.
-TAKES = {"fetch": "bn", "decode": "bbbnnn", "encode": "bbbbnnn", "clear": "bbbnnn", "read": "bbbnn"}
+TAKES = {
+    "fetch": "bn",
+    "decode": "bbbnnn",
+    "encode": "bbbbnnn",
+    "clear": "bbbnnn",
+    "read": "bbbnn",
+    "value_read": "nnb",
+    "value_write": "nnn",
+    "decode_value": "bbnbnn",
+    "encode_value": "bbnnnbnnn",
+}
 GIVES = {
     "fetch": ["data", "store"],
     "decode": ["bit_count", "data"],
     "encode": ["used", "data"],
     "clear": ["data"],
     "read": ["bit_count", "place", "data"],
+    "value_read": ["value"],
+    "value_write": ["data"],
+    "decode_value": ["value"],
+    "encode_value": ["used", "data"],
 }
 
 
@@ -285,6 +317,18 @@ class Answers(unittest.TestCase):
     def test_case_read(self):
         self.hold(shared, "read")
 
+    def test_case_value_read(self):
+        self.hold(shared, "value_read")
+
+    def test_case_value_write(self):
+        self.hold(shared, "value_write")
+
+    def test_case_decode_value(self):
+        self.hold(shared, "decode_value")
+
+    def test_case_encode_value(self):
+        self.hold(shared, "encode_value")
+
     def test_every_number_arises(self):
         self.assertEqual(len(stored()), 20000)
         arose = {answer.number for source in (stored, shared) for call in TAKES for _, answer in compared(source, call)}
@@ -302,7 +346,7 @@ def given(call, *arguments):
 def both_ways(case):
     """A call of a Payload, and by the function on the most room there is: what each gives, how much is used, and all bytes."""
     record, store, *rest = case.arguments
-    place, writes = PAYLOAD.get(case.call, 2) - 2, case.call in ("encode", "clear")
+    place, writes = PAYLOAD.get(case.call, 2) - 2, case.call in WRITES
     data = rest.pop(place)
     if writes:
         data = data[: rest.pop(place)]
@@ -314,14 +358,14 @@ def both_ways(case):
     room = bytearray(data.ljust(LONGEST, b"\0") if writes else data)
     rest[place:place] = [room, len(data)] if writes else [room]
     by_function = given(getattr(dct, case.call), field, *rest)
-    used = by_function if type(by_function) is int else len(data)
+    used = by_function if writes and type(by_function) is int else len(data)
     return (by_payload, len(payload), bytes(payload).ljust(len(room), b"\0")), (by_function, used, room)
 
 
 class Growing(unittest.TestCase):
     """A Payload answers as the functions do, and is a value of its own."""
 
-    def hold(self, call):
+    def hold(self, call, refusals=100):
         refused = 0
         for case in [*stored(), *shared()]:
             if case.call == call:
@@ -329,7 +373,7 @@ class Growing(unittest.TestCase):
                 refused += type(by_function[0]) is tuple
                 if by_payload != by_function:
                     self.fail(f"{case.place}, {call}\n  gives {by_payload!s:.400}\n  not   {by_function!s:.400}")
-        self.assertGreater(refused, 100)
+        self.assertGreater(refused, refusals)
 
     def test_growing_decode(self):
         self.hold("decode")
@@ -342,6 +386,12 @@ class Growing(unittest.TestCase):
 
     def test_growing_read(self):
         self.hold("read")
+
+    def test_growing_decode_value(self):
+        self.hold("decode_value", 7)
+
+    def test_growing_encode_value(self):
+        self.hold("encode_value", 10)
 
     def test_longest(self):
         payload = dct.Payload()
@@ -373,18 +423,30 @@ class Growing(unittest.TestCase):
             self.assertTrue(payload != other and not payload == other, other)
         with self.assertRaises(TypeError):
             hash(payload)
-        with self.assertRaisesRegex(TypeError, "^payload is Payload, not bytes-like: it has the calls itself"):
-            dct.decode(U8, payload)
+        for call, lent in [(dct.decode, [U8]), (dct.decode_value, [U8, dct.Encoding.TWOS_COMPLEMENT])]:
+            with self.assertRaisesRegex(TypeError, "^payload is Payload, not bytes-like: it has the calls itself"):
+                call(*lent, payload)
         self.assertEqual(dct.Field(U8.record), U8)
+
+
+def listed(first):
+    """Name, number and sentence of each line of an enum of include/dct.h, told by its first name."""
+    _, start, behind = (ROOT / "include/dct.h").read_text().partition(f"    DCT_{first} = ")
+    numbered = re.findall(r"^ +DCT_(\w+) = (\d+),? +/\* (.*) \*/$", start + behind.partition("\n};")[0], re.MULTILINE)
+    return [(name, int(number), sentence) for name, number, sentence in numbered]
 
 
 def header():
     """Name, number and sentence of each number of include/dct.h."""
-    text = (ROOT / "include/dct.h").read_text()
-    numbered = re.findall(r"^ +DCT_(\w+) = (\d+),? +/\* (.*) \*/$", text, re.MULTILINE)
-    if len(numbered) + len(classes()) != text.count("    DCT_"):
+    numbered = listed("OK")
+    if len(numbered) + len(classes()) + len(encodings()) != (ROOT / "include/dct.h").read_text().count("    DCT_"):
         raise ValueError("a number of include/dct.h has another form")
-    return [(name, int(number), sentence) for name, number, sentence in numbered]
+    return numbered
+
+
+def encodings():
+    """Name and code of each encoding of include/dct.h."""
+    return [(name, code) for name, code, _ in listed("TWOS_COMPLEMENT")]
 
 
 def classes():
@@ -393,7 +455,74 @@ def classes():
 
 
 # The column of classes of RULES 10, but for B, which all other refusals have.
-CLASSES = {10: "D", 30: "N", 37: "D", **dict.fromkeys(range(39, 46), "P")}
+CLASSES = {10: "D", 30: "N", 37: "D", **dict.fromkeys([*range(39, 46), *range(58, 61)], "P")}
+
+
+# Of each encoding the lowest value of 64 bits, and the highest.
+RANGES = {1: (-(1 << 63), (1 << 63) - 1), 2: (1 - (1 << 63), (1 << 63) - 1), 3: (1 - (1 << 63), (1 << 63) - 1), 4: (0, 10**16 - 1)}
+
+
+class Values(unittest.TestCase):
+    """Ints that C has no room for, and encodings by name."""
+
+    def refuses(self, number, call, *arguments):
+        self.assertEqual(given(call, *arguments), (number, 0, 0), (call.__name__, arguments[:2]))
+
+    def each(self, number, *asked):
+        """A write that is refused, of a value and of a field; the message stays."""
+        self.refuses(number, dct.value_write, *asked)
+        room, message = bytearray(b"\x5A" * 8), dct.Payload(b"\x5A")
+        self.refuses(number, dct.encode_value, U8, *asked, room, 0)
+        self.refuses(number, message.encode_value, U8, *asked)
+        self.assertEqual((room, message), (b"\x5A" * 8, b"\x5A"))
+
+    def test_value_outside_64_bits(self):
+        # each but the first two has lowest 64 bits that are in every range
+        for code, (lowest, highest) in RANGES.items():
+            for value in (lowest - 1, highest + 1, 1 << 64, -(1 << 64), (1 << 64) + 1, 1 << 65, -(1 << 100), 10**5000):
+                self.each(dct.VALUE_OUT_OF_RANGE, code, 64, value)
+                self.each(dct.VALUE_OUT_OF_RANGE, code, 8, value)
+                # what else is wrong is told first
+                self.each(dct.WIDTH_NOT_ALLOWED, code, 65, value)
+                self.each(dct.WIDTH_NOT_ALLOWED, code + 4, 64, value)
+            for value in (lowest, highest):
+                self.assertEqual(dct.value_read(code, 64, dct.value_write(code, 64, value)), value)
+
+    def test_encoding_outside_32_bits(self):
+        # each but the last has lowest 32 bits that are the code of an encoding
+        for code in ((1 << 32) + 1, (1 << 64) + 1, 1 - (1 << 32), (1 << 100) + 4, -1):
+            self.each(dct.WIDTH_NOT_ALLOWED, code, 8, 1)
+            self.refuses(dct.WIDTH_NOT_ALLOWED, dct.value_read, code, 8, b"\1")
+            self.refuses(dct.SLICE_TOO_LONG, dct.value_read, code, 8, bytes(LONGEST + 1))
+            self.refuses(dct.WIDTH_NOT_ALLOWED, dct.decode_value, U8, code, b"\1")
+            self.refuses(dct.WIDTH_NOT_ALLOWED, GROWING.decode_value, U8, code)
+
+    def test_encoding_before_the_field(self):
+        # the payload is too short, so that the field would be refused
+        for call, lent in [(dct.decode_value, [b""]), (dct.Payload().decode_value, [])]:
+            with self.assertRaisesRegex(TypeError, "^encoding is str, not int"):
+                call(U8, "1", *lent)
+            self.assertEqual(given(call, U8, 5, *lent), (dct.NOT_ENOUGH_DATA, 1, 0))
+
+    def test_more_width_than_memory(self):
+        for width in (65, 1 << 32, 1 << 60, (1 << 64) - 1):
+            for encoding in dct.Encoding:
+                self.each(dct.WIDTH_NOT_ALLOWED, encoding, width, 0)
+                self.refuses(dct.WIDTH_NOT_ALLOWED, dct.value_read, encoding, width, bytes(8))
+
+    def test_encoding_by_name(self):
+        patterns = {"TWOS_COMPLEMENT": b"\xFB", "ONES_COMPLEMENT": b"\xFA", "SIGN_MAGNITUDE": b"\x85"}
+        message, room = dct.Payload(b"\x62"), bytearray(4)
+        for place, (name, pattern) in enumerate(patterns.items(), 1):
+            encoding = dct.Encoding[name]
+            self.assertEqual(dct.value_write(encoding, 8, -5), pattern)
+            self.assertEqual(message.encode_value(U8, encoding, 8, -5, place), place + 1)
+            self.assertEqual(dct.encode_value(U8, encoding, 8, -5, room, place, place), place + 1)
+            self.assertEqual(message.decode_value(U8, encoding, place), -5)
+            self.assertEqual(dct.decode_value(U8, encoding, room, byte_pos=place), -5)
+        self.assertEqual((bytes(message), room), (b"\x62\xFB\xFA\x85", b"\0\xFB\xFA\x85"))
+        self.assertIs(type(dct.value_write(dct.Encoding.PACKED_DECIMAL, 16, 2026)), bytes)
+        self.assertEqual(dct.value_read(dct.Encoding.PACKED_DECIMAL, 16, bytearray(b"\x20\x26")), 2026)
 
 
 class Numbers(unittest.TestCase):
@@ -416,6 +545,9 @@ class Numbers(unittest.TestCase):
             self.assertEqual(class_ is None, dct._library.dct_class(number) == 0, number)
         for number in ((1 << 32) + 10, 30 - (1 << 32)):
             self.assertIsNone(dct.Refusal(number).class_, number)
+
+    def test_encodings_of_the_header(self):
+        self.assertEqual([(encoding.name, encoding.value) for encoding in dct.Encoding], encodings())
 
     def test_refusal_as_text(self):
         short = "refusal 30: the payload is too short: expected and actual say by how much (expected 5, actual 2)"
@@ -442,21 +574,38 @@ class Numbers(unittest.TestCase):
 
 
 GROWING = dct.Payload(b"\x5A\x5A")
-# Each call with arguments that would be taken; a payload of two bytes to be written is at the ellipsis.
+# Each call with arguments that would be taken; a payload of two bytes to be written is at the ellipsis. The last two have a width
+# that is refused, but only after what is no argument.
 CALLS = [
     (dct.fetch, [b"DCT\0\1\0\1\0\0" + U8.record, 0]),
     (dct.decode, [U8, b"\1\2", 0, 0, 4]),
     (dct.encode, [U8, b"\1", ..., 2, 0, 0]),
     (dct.clear, [U8, ..., 2, 0, 0]),
     (dct.read, [U8, b"\1\2", 0, 1]),
+    (dct.value_read, [1, 8, b"\1"]),
+    (dct.value_write, [1, 8, 1]),
+    (dct.decode_value, [U8, 1, b"\1\2", 0, 0]),
+    (dct.encode_value, [U8, 1, 8, 1, ..., 2, 0, 0]),
     (dct.Payload, [b"\1"]),
     (GROWING.encode, [U8, b"\1", 0, 0]),
+    (GROWING.encode_value, [U8, 1, 8, 1, 0, 0]),
+    (GROWING.decode_value, [U8, 1, 0, 0]),
     (GROWING.clear, [U8, 0, 0]),
     (GROWING.decode, [U8, 0, 0]),
     (GROWING.read, [U8, 0, 1]),
+    (dct.encode_value, [U8, 1, 65, 1, ..., 2, 0, 0]),
+    (GROWING.encode_value, [U8, 1, 65, 1, 0, 0]),
 ]
 # What an argument has to be, by its name; all others are numbers.
-KINDS = {"field": "field", "table": "bytes", "payload": "bytes", "input": "bytes", "data": "bytes"}
+KINDS = {
+    "field": "field",
+    "table": "bytes",
+    "payload": "bytes",
+    "input": "bytes",
+    "data": "bytes",
+    "encoding": "int",
+    "value": "int",
+}
 
 
 class Arguments(unittest.TestCase):
@@ -497,10 +646,12 @@ class Arguments(unittest.TestCase):
         self.each("number", -(10**5000), ValueError, " is an int of 16610 bits, not from 0 to 2^64-1")
         for wrong in (1.0, "1", b"1", None):
             self.each("number", wrong, TypeError, f" is {type(wrong).__name__}, not int")
+            self.each("int", wrong, TypeError, f" is {type(wrong).__name__}, not int")
 
     def test_bool_is_no_number(self):
         for wrong in (True, False):
             self.each("number", wrong, TypeError, " is bool, not int")
+            self.each("int", wrong, TypeError, " is bool, not int")
 
     def test_not_bytes(self):
         released = memoryview(b"\1")
@@ -518,16 +669,18 @@ class Arguments(unittest.TestCase):
             self.each("field", wrong, TypeError, f" is {type(wrong).__name__}, not a Field or a pair of record and store")
 
     def test_read_only_payload(self):
-        # used lengths that would be refused: the payload is looked at first
-        said = "payload is read-only; encode and clear write it, so lend a bytearray or another writable buffer"
+        # used lengths and a width that would be refused: the payload is looked at first
+        said = "payload is read-only, and the call writes it: lend a bytearray or another writable buffer"
         for payload in (b"\1", memoryview(b"\1"), memoryview(bytearray(1)).toreadonly(), b""):
             self.refuses(TypeError, said, dct.encode, U8, b"\2", payload, 9)
+            self.refuses(TypeError, said, dct.encode_value, U8, 1, 65, 2, payload, 9)
             self.refuses(TypeError, said, dct.clear, U8, payload, 9)
 
     def test_payload_in_steps(self):
         whole, said = bytearray(b"\x5A" * 8), "payload's bytes do not stand side by side"
         for payload in (memoryview(whole)[::2], memoryview(whole)[::-1]):
             self.refuses(BufferError, said, dct.encode, U8, b"\2", payload, 1)
+            self.refuses(BufferError, said, dct.encode_value, U8, 1, 65, 2, payload, 1)
             self.refuses(BufferError, said, dct.clear, U8, payload, 1)
             self.refuses(BufferError, said, dct.read, U8, payload, 0, 1)
         self.assertEqual(whole, b"\x5A" * 8)

@@ -21,10 +21,11 @@ fn found(variable: &str, folder: &str, name: &str, advice: &str) -> PathBuf {
     file
 }
 
-/// The numbers of the header as lines of the macro `numbers`.
+/// The numbers of the header as lines of the macro `numbers`. They are of the enum that starts with `DCT_OK`, and of no other.
 fn numbers(header: &str) -> String {
-    let lines = header.lines().filter_map(|line| line.strip_prefix("    DCT_")).filter(|line| !line.starts_with("CLASS_"));
+    let lines = header.lines().skip_while(|line| !line.starts_with("    DCT_OK = ")).take_while(|line| *line != "};");
     lines
+        .filter_map(|line| line.strip_prefix("    DCT_"))
         .map(|line| {
             let parts = line.split_once(" = ").zip(line.split_once("/* "));
             let ((name, rest), (_, sentence)) = parts.unwrap_or_else(|| stop(format!("dct.h has no number in '{line}'")));

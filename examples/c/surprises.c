@@ -78,6 +78,21 @@ static void there_and_back(const char *what, const uint8_t *record, const char *
     read_back(record, bit_pos);
 }
 
+/* Reads the field at byte 0 once more, as a signed number. */
+static void read_as_value(const uint8_t *record)
+{
+    uint8_t output[4];
+    int64_t value = 0;
+    uint32_t number = dct_decode(record, 16, store, sizeof store, message, used, 0, 0, output, sizeof output, &report);
+    if (number == DCT_OK)
+        number = dct_value_read(DCT_TWOS_COMPLEMENT, report.bit_count, output, report.byte_count, &value);
+    printf("\n  instead: read as a value of %u bits in two's complement:", (unsigned)report.bit_count);
+    if (number != DCT_OK)
+        refused(number);
+    else
+        printf(" %d", (int)value);
+}
+
 static void a_write_ors(void)
 {
     const uint8_t *record = field(UINT32, HIGH_LOW, 8, 0, 0);
@@ -120,6 +135,7 @@ int main(void)
     there_and_back("\n  instead: 16 bits at bit 0 under the condensed mask 0F F0", field(UINT32, PICKED, 16, 2, 2), "\xA5", 1, 0);
     there_and_back("\nmost significant byte first: UInt32 of 16 bits, low-high", field(UINT32, LOW_HIGH, 16, 0, 0), "\x0B\xB8", 2, 0);
     there_and_back("\nnot sign-extended: Int32 of 4 bits, -1", field(INT32, HIGH_LOW, 4, 0, 0), "\xFF", 1, 0);
+    read_as_value(field(INT32, HIGH_LOW, 4, 0, 0));
     printf("\n");
     return 0;
 }

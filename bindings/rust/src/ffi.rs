@@ -2,8 +2,8 @@
 //!
 //! What the header asks of a caller holds by the types: a slice's pointer is never null and holds what its length says, and what
 //! is lent by `&mut` overlaps nothing else.
-use crate::raw::{dct_class, dct_clear, dct_decode, dct_encode, dct_fetch, dct_read, Report};
-use crate::{number, Field, Refusal};
+use crate::raw::{dct_class, dct_clear, dct_decode, dct_encode, dct_fetch, dct_read, dct_value_read, dct_value_write, Report};
+use crate::{number, Encoding, Field, Refusal};
 
 /// The report of a call that gave a number.
 fn answered(number: u32, report: Report) -> Result<Report, Refusal> {
@@ -114,6 +114,19 @@ pub fn fetch(table: &[u8], number: usize) -> Result<[usize; 3], Refusal> {
     // SAFETY: as in `decode`; nothing is written but the places.
     let number = unsafe { dct_fetch(table.as_ptr(), table.len(), number, &mut places) };
     answered(number, Report::default()).map(|_| places)
+}
+
+pub fn value_read(encoding: Encoding, width: usize, bytes: &[u8]) -> Result<i64, Refusal> {
+    let mut value = 0;
+    // SAFETY: as in `decode`; nothing is written but the value.
+    let number = unsafe { dct_value_read(encoding as u32, width, bytes.as_ptr(), bytes.len(), &mut value) };
+    answered(number, Report::default()).map(|_| value)
+}
+
+pub fn value_write(encoding: Encoding, width: usize, value: i64, bytes: &mut [u8]) -> Result<(), Refusal> {
+    // SAFETY: as in `decode`.
+    let number = unsafe { dct_value_write(encoding as u32, width, value, bytes.as_mut_ptr(), bytes.len()) };
+    answered(number, Report::default()).map(drop)
 }
 
 /// The letter of the class of a number.

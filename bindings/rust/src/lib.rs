@@ -1,7 +1,7 @@
 //! Ducatsatchel from Rust: reading and writing the coded fields of diagnostic messages.
 //!
-//! Every call gets an answer or a [`Refusal`] with a number, and a refusal leaves the payload, its used length and the output
-//! as they came. No byte pattern and no number makes a call panic.
+//! Every call gets an answer or a [`Refusal`] with a number, and a refusal leaves the payload, its used length, the output and the
+//! bytes of a value as they came. No byte pattern and no number makes a call panic.
 //!
 //! ```
 //! // UInt32, low-high, 16 bits; the record speaks of no mask, so the store is empty
@@ -21,8 +21,10 @@ mod ffi;
 #[doc(hidden)]
 pub mod raw;
 mod refusal;
+mod value;
 
 pub use refusal::{number, Class, Refusal};
+pub use value::{decode_value, encode_value, value_read, value_write, Encoding};
 
 /// The examples of both READMEs, which are run with the other doc tests.
 #[cfg(doctest)]
@@ -73,7 +75,8 @@ pub fn fetch(table: &[u8], number: usize) -> Result<Field<'_>, Refusal> {
 
 /// Reads the field at a byte and a bit position of the payload into the front of the output. What is behind it stays.
 ///
-/// The most significant byte comes first, also of a low-high field, and a number is right-aligned; an Int32 is not sign-extended.
+/// The most significant byte comes first, also of a low-high field, and a number is right-aligned; an Int32 is not sign-extended, and
+/// [`decode_value`] gives a signed number.
 pub fn decode(
     field: Field<'_>,
     payload: &[u8],

@@ -64,5 +64,7 @@ extern "C" {
         report: *mut Report,
     ) -> u32;
     pub fn dct_fetch(table: *const u8, table_length: usize, number: usize, places: *mut [usize; 3]) -> u32;
+    pub fn dct_value_read(encoding: u32, width: usize, bytes: *const u8, bytes_length: usize, value: *mut i64) -> u32;
+    pub fn dct_value_write(encoding: u32, width: usize, value: i64, bytes: *mut u8, bytes_length: usize) -> u32;
     pub fn dct_class(number: u32) -> u32;
 }

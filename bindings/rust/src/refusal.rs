@@ -34,7 +34,7 @@ pub enum Class {
     NotEnoughData = b'N',
     /// The description asks for what its variant cannot do.
     InvalidDatabase = b'D',
-    /// No error of the Rust: room, slices, records, tables, clear.
+    /// No error of the Rust: room, slices, records, tables, clear, values.
     Ours = b'P',
 }
 

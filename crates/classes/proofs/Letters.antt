@@ -43,13 +43,13 @@ letter-of-0 = refl
 pub letter-in : (a k c : ℕ) → run (λ n. eqb (classLetter n) c) a k ≡ true → (n : ℕ) → a ≤ n → n < a + k → classLetter n ≡ c
 letter-in a k c e n from to = eqb-true _ _ (of-run (λ m. eqb (classLetter m) c) a k e n from to)
 
-pub letter-above : (n : ℕ) → 45 < n → classLetter n ≡ 0
+pub letter-above : (n : ℕ) → 60 < n → classLetter n ≡ 0
 letter-above n h =
     let ten : n ≡ 10 → ⊥ = λ (e : n ≡ 10). omega arith in
     let thirty : n ≡ 30 → ⊥ = λ (e : n ≡ 30). omega arith in
     let seven : n ≡ 37 → ⊥ = λ (e : n ≡ 37). omega arith in
     let eight : n ≡ 38 → ⊥ = λ (e : n ≡ 38). omega arith in
-    simp (ne-eqb _ _ ten, ne-eqb _ _ thirty, ne-eqb _ _ seven, ne-eqb _ _ eight, lt-leb n 13 (omega arith), lt-leb n 27 (omega arith), lt-leb n 36 (omega arith), lt-leb n 45 h, and-false)
+    simp (ne-eqb _ _ ten, ne-eqb _ _ thirty, ne-eqb _ _ seven, ne-eqb _ _ eight, lt-leb n 13 (omega arith), lt-leb n 27 (omega arith), lt-leb n 36 (omega arith), lt-leb n 45 (omega arith), lt-leb n 60 h, and-false)
 
 -- a number without a letter, or a row's
 abbrev rowOrNone : ℕ → Bool
@@ -64,6 +64,6 @@ pub letter-of-no-row : (n : ℕ) → (n ≡ 30 → ⊥) → ((r : Refusal) → n
 letter-of-no-row n not-30 no-row =
     let none : (eqb n 30 || eqb (numberOf (refusalOf n)) n) ≡ false = simp (ne-eqb n 30 not-30, ne-eqb _ n (no-row (refusalOf n))) in
     ⊎-elim {C = classLetter n ≡ 0}
-    (λ (h : n < 46). eqb-true _ _ (one-of-two (eqb (classLetter n) 0) _ none (of-run rowOrNone 0 46 refl n (omega arith) (omega arith))))
-    (λ (h : 46 ≤ n). letter-above n (omega arith))
-    (below n 46)
+    (λ (h : n < 61). eqb-true _ _ (one-of-two (eqb (classLetter n) 0) _ none (of-run rowOrNone 0 61 refl n (omega arith) (omega arith))))
+    (λ (h : 61 ≤ n). letter-above n (omega arith))
+    (below n 61)

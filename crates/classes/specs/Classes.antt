@@ -3,7 +3,7 @@ use Prim.Native.Nat.{ℕ}
 use mathlib.Core.Bool.{Bool, cond, _&&_, _||_}
 use lib.Dec.{eqb, leb}
 use Rattle.kinds.specs.declared.refusals.Refusal.{Refusal}
-use Rattle.kinds.specs.declared.refusals.Refusal.the-variants.{NumericWithVariableLength, OddUnicodeLimits, ZeroMaximum, MaximumBelowMinimum, ByteTypeAtBitPosition, ZeroBitLength, IntegerTooLong, Float32Length, Float64Length, UnicodeLength, BitPositionAboveSeven, BitsPastCut, LengthFieldPastPayload, LengthFieldTooWide, CountTooLarge, ScanPastPayload, EmptyUntilEndOfPdu, MaskLongerThanLength, RuntimeLengthNeeded, EmptyLengthField, NotClearable, PayloadLacksRoom, OutputLacksRoom, MalformedRecord, SliceTooLong, UsedPastSlice, MalformedTable}
+use Rattle.kinds.specs.declared.refusals.Refusal.the-variants.{NumericWithVariableLength, OddUnicodeLimits, ZeroMaximum, MaximumBelowMinimum, ByteTypeAtBitPosition, ZeroBitLength, IntegerTooLong, Float32Length, Float64Length, UnicodeLength, BitPositionAboveSeven, BitsPastCut, LengthFieldPastPayload, LengthFieldTooWide, CountTooLarge, ScanPastPayload, EmptyUntilEndOfPdu, MaskLongerThanLength, RuntimeLengthNeeded, EmptyLengthField, NotClearable, PayloadLacksRoom, OutputLacksRoom, MalformedRecord, SliceTooLong, UsedPastSlice, MalformedTable, WidthNotAllowed, ValueOutOfRange, DigitAboveNine}
 
 -- BadPayload, NotEnoughData and InvalidDatabase of the Rust, and ours
 pub data Class : Type 0 where
@@ -48,6 +48,9 @@ classOf MalformedRecord = ours
 classOf SliceTooLong = ours
 classOf UsedPastSlice = ours
 classOf MalformedTable = ours
+classOf WidthNotAllowed = ours
+classOf ValueOutOfRange = ours
+classOf DigitAboveNine = ours
 
 -- from a to b
 abbrev fromTo : ℕ → ℕ → ℕ → Bool
@@ -59,4 +62,4 @@ classLetter n =
     cond (eqb n 30) (letter notEnoughData)
     (cond (eqb n 10 || eqb n 37) (letter invalidDatabase)
     (cond (fromTo 11 13 n || fromTo 20 27 n || fromTo 31 36 n || eqb n 38) (letter badPayload)
-    (cond (fromTo 39 45 n) (letter ours) 0)))
+    (cond (fromTo 39 45 n || fromTo 58 60 n) (letter ours) 0)))

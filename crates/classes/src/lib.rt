@@ -24,6 +24,7 @@ pub fn class_of(number: u32) -> u32
         37 => CLASS_INVALID_DATABASE,
         38 => CLASS_BAD_PAYLOAD,
         39..=45 => CLASS_OURS,
+        58..=60 => CLASS_OURS,
         _ => 0,
     }
 }

@@ -1,14 +1,16 @@
 // The functions that C calls, and nothing else. Every byte pattern and every number gets an answer: nothing is required.
 ghost use mathlib.Core.Path.{_≡_};
 ghost use mathlib.Core.List.{_∷_};
-ghost use Rattle.kinds.specs.Answers.{numbered};
+ghost use Rattle.kinds.specs.Answers.{numbered, reportOfCheck};
 ghost use Rattle.classes.specs.Classes.{classLetter};
 ghost use Rattle.kinds.specs.Outcomes.{answer};
 ghost use Rattle.payload.specs.Payload.{payloadOf};
 ghost use Rattle.calls.specs.Calls.{byRecord, decoded, encoded, clearedField, runtimeRead};
 ghost use Rattle.parts.specs.Part.{partStart};
+ghost use Rattle.values.specs.Values.{valueReadByCode, valueWrittenByCode};
 ghost use Rattle.dct.specs.Boundary.{startAnswer, placesFetched};
 use kinds::ByteCount;
+use kinds::Check;
 use table::Fetched;
 
 // Reads the field that a record describes into the output.
@@ -123,4 +125,30 @@ pub extern "C" fn dct_class(number: u32) -> u32
     ensures { λ r. ⌜ r ≡ classLetter number ⌝ }
 {
     classes::class_of(number)
+}
+
+// The number of a refusal, and 0 of a pass.
+fn number_of(check: Check) -> u32
+    ensures { λ r. ⌜ numbered r ≡ reportOfCheck check ⌝ }
+{
+    match check {
+        Check::Passed => 0,
+        Check::Refused(refusal) => refusal.number(),
+    }
+}
+
+// Reads the value that bytes say, of so many bits and in the encoding with a code.
+#[no_mangle]
+pub extern "C" fn dct_value_read(encoding: u32, width: usize, bytes: &[u8], value: &mut i64) -> u32
+    ensures { λ r. ⌜ answer (numbered r) (now (value .exit)) ≡ valueReadByCode encoding width (now (bytes .entry)) (now (value .entry)) ⌝ }
+{
+    number_of(values::read_by_code(encoding, width, bytes, value))
+}
+
+// Writes a value to all of the bytes.
+#[no_mangle]
+pub extern "C" fn dct_value_write(encoding: u32, width: usize, value: i64, bytes: &mut [u8]) -> u32
+    ensures { λ r. ⌜ answer (numbered r) (now (bytes .exit)) ≡ valueWrittenByCode encoding width value (now (bytes .entry)) ⌝ }
+{
+    number_of(values::write_by_code(encoding, width, value, bytes))
 }

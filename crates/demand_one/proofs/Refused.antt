@@ -8,21 +8,18 @@ use native.Mathlib.Omega.{arith}
 use lib.ListN.{length, drop, length-append, length-take, length-drop}
 use lib.Seq.{drop-append-seam}
 use lib.Dec.{eqb, ltb}
-use borrow.Author.Tests.{ne-eqb, eqb-false}
+use borrow.Author.Tests.{ne-eqb}
 use Rattle.kinds.specs.declared.types.DataType.{DataType}
 use Rattle.kinds.specs.declared.types.DataType.the-variants.{ByteField}
 use Rattle.kinds.specs.declared.types.ByteOrder.{ByteOrder}
-use Rattle.kinds.specs.declared.refusals.Refusal.{Refusal}
 use Rattle.kinds.specs.declared.refusals.Refusal.the-variants.{OutputLacksRoom, NotClearable}
 use Rattle.kinds.specs.declared.refusals.Check.{Check}
-use Rattle.kinds.specs.declared.refusals.Check.the-variants as check
 use Rattle.kinds.specs.Types.{isByteType, isUnicode}
 use Rattle.kinds.specs.Slices.{saturatingSum, cut}
-use Rattle.kinds.specs.Answers.{numberOf, numbered, refused, short, wrote, read}
-use Rattle.kinds.specs.Outcomes.{rule, firstOf, Outcome, gives, lacks, refuses, after, unlessShort, following, Answer, answer, concluded}
+use Rattle.kinds.specs.Answers.{numbered, short, wrote, read}
+use Rattle.kinds.specs.Outcomes.{rule, firstOf, Outcome, gives, lacks, refuses, after, unlessShort, answer}
 use Rattle.kinds.specs.Refusals.{bitPositionRefusal}
 use Rattle.kinds.proofs.Compare.{below, same}
-use Rattle.kinds.proofs.Rows.{never-0}
 use Rattle.coded.specs.declared.variants.Place.{Place}
 use Rattle.coded.specs.declared.variants.OptionalPlace.{OptionalPlace}
 use Rattle.coded.specs.declared.variants.OptionalPlace.the-variants as place
@@ -52,55 +49,17 @@ use Rattle.clear.specs.Clear.{shapeCleared, fieldClearing}
 use Rattle.parts.specs.Part.{runtimePart, partAnswer, partStart}
 use Rattle.calls.specs.Calls.{Description, byType, byRecord, codedBy, called, decoded, encoded, clearedField, runtimeRead, keyName}
 use Rattle.dct.specs.Boundary.{startAnswer, placesOf, placesFetched}
-use Rattle.demand_one.specs.Refusing.{row, thirty, Refuses, Ends, Decodes, Reads, Encodes, Clears, Fetches, HandsBack, Names, Stores, ByDescription, Demand1}
+use Rattle.demand_one.specs.Refusing.{Ends, Decodes, Reads, Encodes, Clears, Fetches, HandsBack, Names, Stores, ByDescription, Demand1}
 use Rattle.demand_one.proofs.Sizes.{size-written, size-cleared}
+use Rattle.demand_one.proofs.Ending.{refuses-row, refuses-30, Holds, holds-after, holds-short, holds-following, ends, holds-any}
 use Rattle.demand_one.proofs.Made.{makes, makes-after, said-makes, fetch-makes}
+use Rattle.demand_one.proofs.Values.{value-read-ends, value-written-ends, value-read-by-code-ends, value-written-by-code-ends}
 
--- ---- refusals, and what holds of whatever is made
-
-refuses-row : {A : Type 0} (old : A) (r : Refusal) → Refuses old (answer (refused r) old)
-refuses-row old r =
-    record { number = numberOf r; tabled = row r; not-0 = eqb-false (numberOf r) 0 (never-0 r); expected = 0; actual = 0; reports = refl; alone = λ z. (refl, refl); keeps = refl }
-
-refuses-30 : {A : Type 0} (old : A) (e a : ℕ) → Refuses old (answer (short e a) old)
-refuses-30 old e a =
-    record { number = 30; tabled = thirty; not-0 = λ z. absurd (omega arith); expected = e; actual = a; reports = refl; alone = λ z. absurd (z refl); keeps = refl }
-
-abbrev Holds : {A : Type 0} → (A → Type 0) → Outcome A → Type 0
-Holds P (gives a) = P a
-Holds P (lacks e a) = Unit {0}
-Holds P (refuses r) = Unit {0}
-
-module _ {A : Type 0} (P : A → Type 0) where
-  holds-after : (c : Check) (o : Outcome A) → Holds P o → Holds P (after c o)
-  holds-after check.Passed o h = h
-  holds-after (check.Refused r) o h = tt
-
-  holds-short : (t : Bool) (e a : ℕ) (o : Outcome A) → Holds P o → Holds P (unlessShort t e a o)
-  holds-short true e a o h = tt
-  holds-short false e a o h = h
-
-  holds-following : {B : Type 0} (o : Outcome B) (next : B → Outcome A) → ((b : B) → Holds P (next b)) → Holds P (following o next)
-  holds-following (gives b) next h = h b
-  holds-following (lacks e a) next h = tt
-  holds-following (refuses r) next h = tt
-
-  -- what every call refuses first
-  holds-called : (d : Description) (store : List ℕ) (a b used : ℕ) (own : DiagCodedType → Outcome A) → ((t : DiagCodedType) → Holds P (own t))
-      → Holds P (called d store a b used own)
-  holds-called d store a b used own h = holds-following (codedBy d (length store) a b used) _ (λ t. holds-after (descriptionRefusal t (length store)) (own t) (h t))
-
-  -- a call whose answer is good if what was made is
-  ends : {B : Type 0} (Good : Answer B → Type 0) (old : B) (made : A → Answer B) → ((a : A) → P a → Good (made a)) → (o : Outcome A) → Holds P o
-      → Ends Good old (concluded old made o)
-  ends Good old made f (gives a) h = inl (f a h)
-  ends Good old made f (lacks e a) h = inr (refuses-30 old e a)
-  ends Good old made f (refuses r) h = inr (refuses-row old r)
-
-holds-any : {A : Type 0} (o : Outcome A) → Holds (λ (a : A). a ≡ a) o
-holds-any (gives a) = refl
-holds-any (lacks e a) = tt
-holds-any (refuses r) = tt
+-- what every call refuses first
+holds-called : {A : Type 0} (P : A → Type 0) (d : Description) (store : List ℕ) (a b used : ℕ) (own : DiagCodedType → Outcome A)
+    → ((t : DiagCodedType) → Holds P (own t)) → Holds P (called d store a b used own)
+holds-called P d store a b used own h =
+    holds-following P (codedBy d (length store) a b used) _ (λ t. holds-after P (descriptionRefusal t (length store)) (own t) (h t))
 
 -- ---- readings
 
@@ -281,6 +240,10 @@ demand-1 =
       by-record = λ bytes. by-description (byRecord bytes);
       fetch = fetch-ends;
       record-of = record-of-ends;
+      value-read = value-read-ends;
+      value-written = value-written-ends;
+      value-read-by-code = value-read-by-code-ends;
+      value-written-by-code = value-written-by-code-ends;
       new-limits = λ min max e. makes-after _ (minMaxRefusal min max) _ (makes _ _ (refl, refl, refl));
       new = λ t v highLow. makes-after _ (codedTypeRefusal t v) _ (makes _ _ (refl, refl, refl));
       validate = λ t. makes-after _ (madeRefusal t) _ (makes _ _ refl);

@@ -6,6 +6,7 @@ use mathlib.Core.Bool.{Bool}
 use mathlib.Core.List.{List, [], _∷_}
 use Prim.Native.Nat.{ℕ, _+_, _*_, _≤_}
 use lib.ListN.{length, drop}
+use lib.IntN.{ℤ}
 use Rattle.kinds.specs.declared.types.DataType.{DataType}
 use Rattle.kinds.specs.declared.refusals.Refusal.{Refusal}
 use Rattle.kinds.specs.Slices.{cut}
@@ -24,6 +25,12 @@ use Rattle.record.specs.Recorded.{codedByRecord}
 use Rattle.storing.specs.Storing.{storedRecord}
 use Rattle.table.specs.Table.{fetched}
 use Rattle.payload.specs.Payload.{Payload}
+use Rattle.bits.specs.Bits.{bitAt, number}
+use Rattle.encodings.specs.declared.forms.Encoding.{Encoding}
+use Rattle.encodings.specs.declared.forms.OptionalEncoding.the-variants.{Known}
+use Rattle.encodings.specs.Widths.{encodingOf}
+use Rattle.encodings.specs.Meaning.{meaning}
+use Rattle.values.specs.Values.{valueRead, valueWritten, valueReadByCode, valueWrittenByCode}
 use Rattle.calls.specs.Calls.{Description, byType, byRecord, decoded, encoded, clearedField, runtimeRead, keyName}
 use Rattle.dct.specs.Boundary.{startAnswer, placesFetched}
 
@@ -98,6 +105,27 @@ pub record Stores (s : Answer (List ℕ)) : Type 0 where
   pub reports : s .report ≡ wrote
   pub size : length (s .left) ≡ recordSize
 
+-- a value that is read: what the lowest bits say
+pub record ReadsValue (e : Encoding) (width : ℕ) (xs : List ℕ) (s : Answer ℤ) : Type 0 where
+  pub reports : s .report ≡ wrote
+  pub means : s .left ≡ meaning e width (number width (bitAt xs))
+
+-- a value that is written: the bytes keep their number
+pub record WritesValue (xs : List ℕ) (s : Answer (List ℕ)) : Type 0 where
+  pub reports : s .report ≡ wrote
+  pub size : length (s .left) ≡ length xs
+
+-- by a code, which tells an encoding then
+pub record ReadsByCode (code width : ℕ) (xs : List ℕ) (s : Answer ℤ) : Type 0 where
+  pub encoding : Encoding
+  pub told : encodingOf code ≡ Known encoding
+  pub reads : ReadsValue encoding width xs s
+
+pub record WritesByCode (code : ℕ) (xs : List ℕ) (s : Answer (List ℕ)) : Type 0 where
+  pub encoding : Encoding
+  pub told : encodingOf code ≡ Known encoding
+  pub writes : WritesValue xs s
+
 -- a call that is lent nothing to change: it makes something, of which this holds,
 pub record Gives {A : Type 0} (Good : A → Type 0) (o : Outcome A) : Type 0 where
   pub made : A
@@ -127,7 +155,8 @@ pub record ByDescription (d : Description) : Type 0 where
 
 -- Every public call that can refuse; `new_high_low_byte_order` is `new` with true. A coded type is any at all: also one that no record can
 -- say, and one that `new` would refuse. So is a record: any bytes.
--- A refused fetch leaves zeros in place of the places that C is told, and a refused `record_of` the old bytes. `new-limits` is the `new` of
+-- A refused fetch leaves zeros in place of the places that C is told, a refused `record_of` the old bytes, a refused reading of a value the
+-- old value, and a refused writing the old bytes. `new-limits` is the `new` of
 -- MinMaxLengthType, and `new` that of DiagCodedType. `validate` answers a check alone; what passes
 -- it stands here as what is made.
 pub record Demand1 : Type 0 where
@@ -135,6 +164,10 @@ pub record Demand1 : Type 0 where
   pub by-record : (bytes : List ℕ) → ByDescription (byRecord bytes)
   pub fetch : (table : List ℕ) (number : ℕ) → Ends Fetches (0 ∷ 0 ∷ 0 ∷ []) (placesFetched table number)
   pub record-of : (t : DiagCodedType) (old : List ℕ) → Ends Stores old (storedRecord t old)
+  pub value-read : (e : Encoding) (width : ℕ) (xs : List ℕ) (old : ℤ) → Ends (ReadsValue e width xs) old (valueRead e width xs old)
+  pub value-written : (e : Encoding) (width : ℕ) (v : ℤ) (xs : List ℕ) → Ends (WritesValue xs) xs (valueWritten e width v xs)
+  pub value-read-by-code : (code width : ℕ) (xs : List ℕ) (old : ℤ) → Ends (ReadsByCode code width xs) old (valueReadByCode code width xs old)
+  pub value-written-by-code : (code width : ℕ) (v : ℤ) (xs : List ℕ) → Ends (WritesByCode code xs) xs (valueWrittenByCode code width v xs)
   pub new-limits : (min : ℕ) (max : MaxLength) (e : Termination)
       → Makes (λ m. (m .«min_length» ≡ min) × (m .«max_length» ≡ max) × (m .termination ≡ e)) (newMinMax min max e)
   pub new : (t : DataType) (v : DiagCodedTypeVariant) (highLow : Bool)

@@ -2,7 +2,7 @@
 use Prim.Native.Nat.{ℕ}
 use mathlib.Core.List.{List, [], _∷_}
 use Rattle.kinds.specs.declared.refusals.Refusal.{Refusal}
-use Rattle.kinds.specs.declared.refusals.Refusal.the-variants.{NumericWithVariableLength, OddUnicodeLimits, ZeroMaximum, MaximumBelowMinimum, ByteTypeAtBitPosition, ZeroBitLength, IntegerTooLong, Float32Length, Float64Length, UnicodeLength, BitPositionAboveSeven, BitsPastCut, LengthFieldPastPayload, LengthFieldTooWide, CountTooLarge, ScanPastPayload, EmptyUntilEndOfPdu, MaskLongerThanLength, RuntimeLengthNeeded, EmptyLengthField, NotClearable, PayloadLacksRoom, OutputLacksRoom, MalformedRecord, SliceTooLong, UsedPastSlice, MalformedTable}
+use Rattle.kinds.specs.declared.refusals.Refusal.the-variants.{NumericWithVariableLength, OddUnicodeLimits, ZeroMaximum, MaximumBelowMinimum, ByteTypeAtBitPosition, ZeroBitLength, IntegerTooLong, Float32Length, Float64Length, UnicodeLength, BitPositionAboveSeven, BitsPastCut, LengthFieldPastPayload, LengthFieldTooWide, CountTooLarge, ScanPastPayload, EmptyUntilEndOfPdu, MaskLongerThanLength, RuntimeLengthNeeded, EmptyLengthField, NotClearable, PayloadLacksRoom, OutputLacksRoom, MalformedRecord, SliceTooLong, UsedPastSlice, MalformedTable, WidthNotAllowed, ValueOutOfRange, DigitAboveNine}
 use Rattle.kinds.specs.declared.refusals.Check.{Check}
 use Rattle.kinds.specs.declared.refusals.Check.the-variants as check
 use Rattle.kinds.specs.declared.refusals.Reading.{Reading}
@@ -39,6 +39,9 @@ numberOf MalformedRecord = 42
 numberOf SliceTooLong = 43
 numberOf UsedPastSlice = 44
 numberOf MalformedTable = 45
+numberOf WidthNotAllowed = 58
+numberOf ValueOutOfRange = 59
+numberOf DigitAboveNine = 60
 
 -- A report is five numbers in a row: number, bit count, byte count, expected, actual. Here the number is alone: that of a refusal, or 0,
 -- with which encode and clear report their success

@@ -37,6 +37,9 @@ pub enum Refusal {
     SliceTooLong,
     UsedPastSlice,
     MalformedTable,
+    WidthNotAllowed,
+    ValueOutOfRange,
+    DigitAboveNine,
 }
 
 // The answer of a check.
@@ -110,6 +113,9 @@ impl Refusal {
             Refusal::SliceTooLong => 43,
             Refusal::UsedPastSlice => 44,
             Refusal::MalformedTable => 45,
+            Refusal::WidthNotAllowed => 58,
+            Refusal::ValueOutOfRange => 59,
+            Refusal::DigitAboveNine => 60,
         }
     }
 }

@@ -7,6 +7,7 @@ use mathlib.Core.List.{List, _∷_}
 use Prim.Native.Nat.{ℕ}
 use lib.ListN.{length, getD, drop}
 use lib.Dec.{eqb}
+use lib.IntN.{ℤ}
 use Rattle.kinds.specs.declared.types.DataType.{DataType}
 use Rattle.kinds.specs.declared.types.BitLength.{BitLength}
 use Rattle.kinds.specs.declared.types.ByteCount.{ByteCount}
@@ -66,12 +67,19 @@ use Rattle.calls.proofs.clear_by_record.Reads as clear-by-record
 use Rattle.calls.proofs.decode_with_runtime_byte_length.Reads as runtime-read
 use Rattle.calls.proofs.decode_with_runtime_byte_length_by_record.Reads as runtime-read-by-record
 use Rattle.calls.proofs.length_key_name.Reads as length-key-name
+use Rattle.encodings.proofs.encoding_of.Reads as encoding-of
+use Rattle.values.proofs.read.Reads as value-read
+use Rattle.values.proofs.read_by_code.Reads as value-read-by-code
+use Rattle.values.proofs.write.Reads as value-write
+use Rattle.values.proofs.write_by_code.Reads as value-write-by-code
 use Rattle.dct.proofs.dct_class.Reads as dct-class
 use Rattle.dct.proofs.dct_decode.Reads as dct-decode
 use Rattle.dct.proofs.dct_encode.Reads as dct-encode
 use Rattle.dct.proofs.dct_clear.Reads as dct-clear
 use Rattle.dct.proofs.dct_read.Reads as dct-read
 use Rattle.dct.proofs.dct_fetch.Reads as dct-fetch
+use Rattle.dct.proofs.dct_value_read.Reads as dct-value-read
+use Rattle.dct.proofs.dct_value_write.Reads as dct-value-write
 
 -- the law: what an answer shows tells the answer, and so two answers that show the same are one
 pub no-second : {A B : Type 0} (shows : A → B) (tells : B → A) {x : B} → ((a : A) → tells (shows a) ≡ a)
@@ -204,6 +212,22 @@ fetch-one κs args r r′ e e′ h h′ = no-second outcomeOfFetched (outcomeTel
 pub record-of-one : (κs : _) (args : _) (r r′ : _) (e e′ : _) → record-of.Learnt κs args r e → record-of.Learnt κs args r′ e′ → _≡_ {A = Check × List ℕ} (r, e .1 .0 .now) (r′, e′ .1 .0 .now)
 record-of-one κs args r r′ e e′ h h′ = one-reported reportOfCheck checkOf check-told (r, e .1 .0 .now) (r′, e′ .1 .0 .now) h h′
 
+-- a value that is read: the answer and the value; one that is written: the answer and the bytes
+pub value-read-one : (κs : _) (args : _) (r r′ : _) (e e′ : _) → value-read.Learnt κs args r e → value-read.Learnt κs args r′ e′ → _≡_ {A = Check × ℤ} (r, e .1 .1 .1 .0 .now) (r′, e′ .1 .1 .1 .0 .now)
+value-read-one κs args r r′ e e′ h h′ = one-reported reportOfCheck checkOf check-told (r, e .1 .1 .1 .0 .now) (r′, e′ .1 .1 .1 .0 .now) h h′
+
+pub value-read-by-code-one : (κs : _) (args : _) (r r′ : _) (e e′ : _) → value-read-by-code.Learnt κs args r e → value-read-by-code.Learnt κs args r′ e′ → _≡_ {A = Check × ℤ} (r, e .1 .1 .1 .0 .now) (r′, e′ .1 .1 .1 .0 .now)
+value-read-by-code-one κs args r r′ e e′ h h′ = one-reported reportOfCheck checkOf check-told (r, e .1 .1 .1 .0 .now) (r′, e′ .1 .1 .1 .0 .now) h h′
+
+pub value-write-one : (κs : _) (args : _) (r r′ : _) (e e′ : _) → value-write.Learnt κs args r e → value-write.Learnt κs args r′ e′ → _≡_ {A = Check × List ℕ} (r, e .1 .1 .1 .0 .now) (r′, e′ .1 .1 .1 .0 .now)
+value-write-one κs args r r′ e e′ h h′ = one-reported reportOfCheck checkOf check-told (r, e .1 .1 .1 .0 .now) (r′, e′ .1 .1 .1 .0 .now) h h′
+
+pub value-write-by-code-one : (κs : _) (args : _) (r r′ : _) (e e′ : _) → value-write-by-code.Learnt κs args r e → value-write-by-code.Learnt κs args r′ e′ → _≡_ {A = Check × List ℕ} (r, e .1 .1 .1 .0 .now) (r′, e′ .1 .1 .1 .0 .now)
+value-write-by-code-one κs args r r′ e e′ h h′ = one-reported reportOfCheck checkOf check-told (r, e .1 .1 .1 .0 .now) (r′, e′ .1 .1 .1 .0 .now) h h′
+
+pub encoding-of-one : (κs : _) (args : _) (r r′ : _) (e e′ : _) → encoding-of.Learnt κs args r e → encoding-of.Learnt κs args r′ e′ → r ≡ r′
+encoding-of-one κs args r r′ e e′ h h′ = h ∙ sym h′
+
 -- the getters
 pub min-length-one : (κs : _) (args : _) (r r′ : _) (e e′ : _) → min-length.Learnt κs args r e → min-length.Learnt κs args r′ e′ → r ≡ r′
 min-length-one κs args r r′ e e′ h h′ = h ∙ sym h′
@@ -241,6 +265,12 @@ dct-read-one κs args r r′ e e′ h h′ = one-counted (r, e .1 .1 .1 .1 .1 .1
 
 pub dct-fetch-one : (κs : _) (args : _) (r r′ : _) (e e′ : _) → dct-fetch.Learnt κs args r e → dct-fetch.Learnt κs args r′ e′ → _≡_ {A = ℕ × List ℕ} (r, e .1 .1 .0 .now) (r′, e′ .1 .1 .0 .now)
 dct-fetch-one κs args r r′ e e′ h h′ = one-numbered (r, e .1 .1 .0 .now) (r′, e′ .1 .1 .0 .now) h h′
+
+pub dct-value-read-one : (κs : _) (args : _) (r r′ : _) (e e′ : _) → dct-value-read.Learnt κs args r e → dct-value-read.Learnt κs args r′ e′ → _≡_ {A = ℕ × ℤ} (r, e .1 .1 .1 .0 .now) (r′, e′ .1 .1 .1 .0 .now)
+dct-value-read-one κs args r r′ e e′ h h′ = one-numbered (r, e .1 .1 .1 .0 .now) (r′, e′ .1 .1 .1 .0 .now) h h′
+
+pub dct-value-write-one : (κs : _) (args : _) (r r′ : _) (e e′ : _) → dct-value-write.Learnt κs args r e → dct-value-write.Learnt κs args r′ e′ → _≡_ {A = ℕ × List ℕ} (r, e .1 .1 .1 .0 .now) (r′, e′ .1 .1 .1 .0 .now)
+dct-value-write-one κs args r r′ e e′ h h′ = one-numbered (r, e .1 .1 .1 .0 .now) (r′, e′ .1 .1 .1 .0 .now) h h′
 
 -- the class of a number
 pub dct-class-one : (κs : _) (args : _) (r r′ : _) (e e′ : _) → dct-class.Learnt κs args r e → dct-class.Learnt κs args r′ e′ → r ≡ r′

@@ -5,6 +5,7 @@ use mathlib.Core.Bool.{true, cond}
 use mathlib.Core.List.{List, [], _∷_}
 use Prim.Native.Nat.{ℕ}
 use lib.ListN.{replicate}
+use lib.IntN as int
 use Rattle.kinds.proofs.Examples.{Example, hold, _is_}
 use Rattle.kinds.specs.Answers.{numberIn}
 use Rattle.order.specs.Order.{ordered, swapPairs}
@@ -19,9 +20,14 @@ use Rattle.unpack.specs.Unpacked.{unpacked}
 use Rattle.readers.specs.Finding.{bitsFinding, leadingFinding, minMaxFinding}
 use Rattle.payload.specs.Payload.{payloadOf}
 use Rattle.payload.specs.Writing.{writing, clearing}
+use Rattle.numerals.specs.Digits.{rebased, digitsBelow}
+use Rattle.encodings.specs.Widths.{encodingOf}
+use Rattle.encodings.specs.Meaning.{meaning}
+use Rattle.encodings.specs.Writing.{inRange, patternOf}
+use Rattle.values.specs.Values.{valueRead, valueWritten, valueReadByCode, valueWrittenByCode}
 use Rattle.calls.specs.Calls.{byRecord, decoded, encoded, clearedField, runtimeRead, keyName}
 use Rattle.dct.specs.Boundary.{placesFetched}
-use Rattle.refusal_order.specs.RefusalsInOrder.{Row, decodeOrder, readOrder, encodeOrder, clearOrder, fetchOrder, keyNameOrder}
+use Rattle.refusal_order.specs.RefusalsInOrder.{Row, decodeOrder, readOrder, encodeOrder, clearOrder, fetchOrder, keyNameOrder, readValueOrder, writeValueOrder}
 
 -- the numbers of all rows whose tests hold
 abbrev broken : List Row → List ℕ
@@ -79,6 +85,12 @@ tableOf bytes = 0x44 ∷ 0x43 ∷ 0x54 ∷ 0 ∷ 1 ∷ 0 ∷ 1 ∷ 0 ∷ 0 ∷ b
 
 abbrev names : List ℕ → List ℕ → List ℕ
 names bytes store = numberIn (keyName (byRecord bytes) store .report) ∷ broken (keyNameOrder (byRecord bytes) store)
+
+abbrev readsValue : ℕ → ℕ → List ℕ → List ℕ
+readsValue code width xs = numberIn (valueReadByCode code width xs (int.pos 0) .report) ∷ broken (readValueOrder (encodingOf code) width xs)
+
+abbrev writesValue : ℕ → ℕ → int.ℤ → List ℕ → List ℕ
+writesValue code width v xs = numberIn (valueWrittenByCode code width v xs .report) ∷ broken (writeValueOrder (encodingOf code) width v xs)
 
 -- the first of several, which are all that are broken
 abbrev first : ℕ → List ℕ → List ℕ
@@ -158,8 +170,19 @@ examples =
     ∷ (fetches (tableOf (minMax 2 2 1 0)) 1 is first 42 [])
     -- key name: the name is outside the store
     ∷ (names (told 2 1 4 0 0 0 1) [] is first 42 [])
+    -- a value read: an encoding that is none, of many bytes and of none; packed decimal of five bits, and of four in two bytes; a digit of 10
+    ∷ (readsValue 5 8 (replicate 65536 0) is first 43 (58 ∷ []))
+    ∷ (readsValue 0 8 [] is first 58 [])
+    ∷ (readsValue 4 5 (0x0A ∷ []) is first 58 (60 ∷ []))
+    ∷ (readsValue 4 4 (0x00 ∷ 0x0A ∷ []) is first 58 (60 ∷ []))
+    ∷ (readsValue 4 4 (0x0A ∷ []) is first 60 [])
+    -- and written: two's complement of 8 bits in two bytes, and in many; of one bit; and in one byte
+    ∷ (writesValue 1 8 (int.pos 128) (replicate 65536 0) is first 43 (58 ∷ 59 ∷ []))
+    ∷ (writesValue 1 8 (int.pos 128) (0x00 ∷ 0x00 ∷ []) is first 58 (59 ∷ []))
+    ∷ (writesValue 1 1 (int.pos 1) (0x00 ∷ []) is first 58 (59 ∷ []))
+    ∷ (writesValue 1 8 (int.negsuc 128) (0x00 ∷ []) is first 59 [])
     ∷ []
 
 all-hold : hold examples ≡ true
-unfolding examples decoded runtimeRead encoded clearedField keyName placesFetched fetched codedOf readAnswer bitsFinding leadingFinding minMaxFinding unpacked leadingCount scan ordered swapPairs bit bitAt number packed extracted overlaid writing clearing
+unfolding examples decoded runtimeRead encoded clearedField keyName placesFetched fetched codedOf readAnswer bitsFinding leadingFinding minMaxFinding unpacked leadingCount scan ordered swapPairs bit bitAt number packed extracted overlaid writing clearing valueRead valueWritten valueReadByCode valueWrittenByCode meaning inRange patternOf rebased digitsBelow
 all-hold = refl

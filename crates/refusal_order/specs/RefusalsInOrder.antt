@@ -8,6 +8,7 @@ use mathlib.Core.Bool.{Bool, true, false, cond, not, _&&_, _||_}
 use mathlib.Core.List.{List, [], _∷_}
 use lib.ListN.{length}
 use lib.Dec.{eqb, ltb, leb}
+use lib.IntN.{ℤ}
 use Rattle.kinds.specs.declared.types.DataType.{DataType}
 use Rattle.kinds.specs.declared.types.DataType.the-variants.{Int32, UInt32, Float32, Float64}
 use Rattle.kinds.specs.declared.types.ByteOrder.{ByteOrder}
@@ -41,6 +42,14 @@ use Rattle.payload.specs.Payload.{Payload}
 use Rattle.payload.specs.Writing.{cutEnd}
 use Rattle.lengths.specs.Refusals.{condensedBits, untilEndOfPdu}
 use Rattle.writers.specs.Shapes.{withTerminator}
+use Rattle.bits.specs.Bits.{bitAt, number}
+use Rattle.encodings.specs.declared.forms.Encoding.{Encoding}
+use Rattle.encodings.specs.declared.forms.OptionalEncoding.{OptionalEncoding}
+use Rattle.encodings.specs.declared.forms.OptionalEncoding.the-variants.{Known, Unknown}
+use Rattle.encodings.specs.Widths.{encodingOf, fits}
+use Rattle.encodings.specs.Meaning.{legalDigits}
+use Rattle.encodings.specs.Writing.{inRange}
+use Rattle.values.specs.Values.{valueRead, valueWritten, valueReadByCode, valueWrittenByCode}
 use Rattle.calls.specs.Calls.{Description, codedSaid, recordBytes, decoded, encoded, clearedField, runtimeRead, keyName}
 use Rattle.dct.specs.Boundary.{placesFetched}
 
@@ -311,6 +320,24 @@ fetchOrder table number =
 abbrev pub keyNameOrder : Description → List ℕ → List Row
 keyNameOrder d store = ofCall d store [] false (λ f. [])
 
+-- ---- values: 43, 58, and then 60 of a reading and 59 of a writing. What tells no encoding fits no width
+
+abbrev pub readValueOrder : OptionalEncoding → ℕ → List ℕ → List Row
+readValueOrder (Known e) width xs =
+    (43 when ltb 65535 (length xs))
+    ∷ (58 when not (fits e width (length xs)))
+    ∷ (60 when not (legalDigits e width (number width (bitAt xs))))
+    ∷ []
+readValueOrder Unknown width xs = (43 when ltb 65535 (length xs)) ∷ (58 when true) ∷ []
+
+abbrev pub writeValueOrder : OptionalEncoding → ℕ → ℤ → List ℕ → List Row
+writeValueOrder (Known e) width v xs =
+    (43 when ltb 65535 (length xs))
+    ∷ (58 when not (fits e width (length xs)))
+    ∷ (59 when not (inRange e width v))
+    ∷ []
+writeValueOrder Unknown width v xs = (43 when ltb 65535 (length xs)) ∷ (58 when true) ∷ []
+
 -- ---- every call, for every input: the number in its report is that of the first row whose test holds
 
 pub record InOrder : Type 0 where
@@ -324,3 +351,10 @@ pub record InOrder : Type 0 where
       → numberIn (clearedField d store p at pos .report) ≡ firstNumber (clearOrder d store p at pos)
   pub fetch : (table : List ℕ) (number : ℕ) → numberIn (placesFetched table number .report) ≡ firstNumber (fetchOrder table number)
   pub key-name : (d : Description) (store : List ℕ) → numberIn (keyName d store .report) ≡ firstNumber (keyNameOrder d store)
+  pub value-read : (e : Encoding) (width : ℕ) (xs : List ℕ) (old : ℤ) → numberIn (valueRead e width xs old .report) ≡ firstNumber (readValueOrder (Known e) width xs)
+  pub value-read-by-code : (code width : ℕ) (xs : List ℕ) (old : ℤ)
+      → numberIn (valueReadByCode code width xs old .report) ≡ firstNumber (readValueOrder (encodingOf code) width xs)
+  pub value-written : (e : Encoding) (width : ℕ) (v : ℤ) (xs : List ℕ)
+      → numberIn (valueWritten e width v xs .report) ≡ firstNumber (writeValueOrder (Known e) width v xs)
+  pub value-written-by-code : (code width : ℕ) (v : ℤ) (xs : List ℕ)
+      → numberIn (valueWrittenByCode code width v xs .report) ≡ firstNumber (writeValueOrder (encodingOf code) width v xs)

@@ -1,5 +1,6 @@
 //! A call of the library with all that is lent to it, and the whole of its answer.
 use std::fmt;
+use std::ops::Range;
 
 #[derive(Clone, Debug)]
 pub struct Case {
@@ -15,10 +16,14 @@ pub enum Call {
     Clear { payload: Vec<u8>, used: usize, byte_pos: usize, bit_pos: usize },
     Read { payload: Vec<u8>, byte_pos: usize, byte_count: usize },
     Fetch { table: Vec<u8>, number: usize },
+    ReadValue { encoding: u32, width: usize, bytes: Vec<u8>, before: i64 },
+    WriteValue { encoding: u32, width: usize, value: i64, bytes: Vec<u8> },
 }
 
 impl Call {
-    pub const NAMES: [&'static str; 5] = ["decode", "encode", "clear", "read", "fetch"];
+    pub const NAMES: [&'static str; 7] = ["decode", "encode", "clear", "read", "fetch", "value read", "value write"];
+    /// Where the names of the two calls on values stand in `NAMES`.
+    pub const VALUES: Range<usize> = 5..7;
 
     /// Where the call's name stands in `NAMES`.
     pub fn kind(&self) -> usize {
@@ -28,6 +33,8 @@ impl Call {
             Call::Clear { .. } => 2,
             Call::Read { .. } => 3,
             Call::Fetch { .. } => 4,
+            Call::ReadValue { .. } => 5,
+            Call::WriteValue { .. } => 6,
         }
     }
 }
@@ -54,24 +61,28 @@ pub struct Answer {
     pub class: u32,
     /// Bit count, byte count, expected, actual.
     pub report: [usize; 4],
-    /// The output after a decode, the payload after an encode or a clear, the part that a read found.
+    /// The output after a decode, the payload after an encode or a clear, the part that a read found, a written value.
     pub bytes: Vec<u8>,
     /// The used length after an encode.
     pub used: usize,
     /// Where a read's part starts; the three places of a fetch.
     pub places: [usize; 3],
+    /// What stands where a value is read to.
+    pub value: i64,
 }
 
 impl Answer {
     /// A refusal of the class that the original has not, which leaves what was lent as it came.
     pub fn refused(number: u32, call: &Call) -> Answer {
-        let (bytes, used) = match call {
-            Call::Decode { output, .. } => (output.clone(), 0),
-            Call::Encode { payload, used, .. } => (payload.clone(), *used),
-            Call::Clear { payload, .. } => (payload.clone(), 0),
-            Call::Read { .. } | Call::Fetch { .. } => (Vec::new(), 0),
+        let (bytes, used, value) = match call {
+            Call::Decode { output, .. } => (output.clone(), 0, 0),
+            Call::Encode { payload, used, .. } => (payload.clone(), *used, 0),
+            Call::Clear { payload, .. } => (payload.clone(), 0, 0),
+            Call::Read { .. } | Call::Fetch { .. } => (Vec::new(), 0, 0),
+            Call::ReadValue { before, .. } => (Vec::new(), 0, *before),
+            Call::WriteValue { bytes, .. } => (bytes.clone(), 0, 0),
         };
-        Answer { number, class: class::OURS, bytes, used, ..Answer::default() }
+        Answer { number, class: class::OURS, bytes, used, value, ..Answer::default() }
     }
 
     /// The refusal 30.
@@ -121,6 +132,14 @@ impl fmt::Display for Case {
                 writeln!(f, "  table {}", Hex(table))?;
                 write!(f, "  number {number}")
             }
+            Call::ReadValue { encoding, width, bytes, before } => {
+                writeln!(f, "  encoding {encoding}, {width} bits, value before {before}")?;
+                write!(f, "  bytes {}", Hex(bytes))
+            }
+            Call::WriteValue { encoding, width, value, bytes } => {
+                writeln!(f, "  encoding {encoding}, {width} bits, value {value}")?;
+                write!(f, "  bytes before {}", Hex(bytes))
+            }
         }
     }
 }
@@ -130,6 +149,6 @@ impl fmt::Display for Answer {
         let [bits, bytes, expected, actual] = self.report;
         let class = shown(self.class);
         write!(f, "{} {class}, {bits} bits, {bytes} bytes, expected {expected}, actual {actual}, ", self.number)?;
-        write!(f, "used {}, places {:?}, bytes {}", self.used, self.places, Hex(&self.bytes))
+        write!(f, "used {}, places {:?}, value {}, bytes {}", self.used, self.places, self.value, Hex(&self.bytes))
     }
 }

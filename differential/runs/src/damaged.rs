@@ -59,6 +59,7 @@ pub fn case(seed: u64, number: u64) -> Case {
             }
             Call::Encode { input: payload, .. } | Call::Clear { payload, .. } => damage(&mut random, payload),
             Call::Fetch { table, .. } => damage(&mut random, table),
+            Call::ReadValue { .. } | Call::WriteValue { .. } => unreachable!("no random case is a call on a value"),
         },
     }
     case

@@ -4,14 +4,22 @@ use std::path::{Path, PathBuf};
 use std::process::Command;
 use std::{env, fs, io};
 
+/// The crates whose edits are not tried: `replay` and `getters` are what looks, and neither of them calls what `storing` writes, nor
+/// reads or writes a value, which is all that `encodings`, `numerals` and `values` are for.
+const NOT_TRIED: [&str; 6] = ["encodings", "getters", "numerals", "replay", "storing", "values"];
+
 /// The edits that neither can show, and why.
-const OUT_OF_REACH: [(&str, &str); 13] = [
+const OUT_OF_REACH: [(&str, &str); 17] = [
     ("bits/set_two_bits", "nobody passes more than a bit"),
     ("calls/decode_refuses_all", "no exported function calls it"),
     ("classes/class_of_37", "no class is stored"),
     ("classes/class_up_to_44", "no class is stored"),
     ("dct/places_on_refusal", "no fetch is stored"),
     ("dct/store_for_the_record", "no fetch is stored"),
+    ("dct/value_read_in_twos_complement", "no call on a value is stored"),
+    ("dct/value_read_of_eight_bits", "no call on a value is stored"),
+    ("dct/value_written_in_twos_complement", "no call on a value is stored"),
+    ("dct/value_written_of_eight_bits", "no call on a value is stored"),
     ("field/payload_of_any_size", "no slice stored is as long as 43 needs"),
     ("field/record_past_its_limit", "no slice stored is as long as 43 needs"),
     ("field/store_as_long_as_a_payload", "no slice stored is as long as 43 needs"),
@@ -93,12 +101,8 @@ pub fn run() -> bool {
     copy(&root.join("crates"), &work.join("crates")).expect("a copy of the crates");
     copy(&root.join("crates.txt"), &work.join("crates.txt")).expect("a copy of the list of crates");
     let (mut shown, mut in_lines, mut as_said) = (0, 0, true);
-    for name in names(&root.join("crates")) {
+    for name in names(&root.join("crates")).into_iter().filter(|name| !NOT_TRIED.contains(&name.as_str())) {
         for label in names(&root.join("crates").join(&name).join("must-fail")) {
-            // neither program calls what `storing` writes, and they are what looks
-            if matches!(name.as_str(), "storing" | "replay" | "getters") {
-                continue;
-            }
             let Some(edit) = read(&root.join("crates"), &name, &label) else { continue };
             let why = OUT_OF_REACH.iter().find(|(name, _)| *name == edit.name).map(|(_, why)| why);
             match (changed(&work, &edit), why) {

@@ -5,20 +5,24 @@ use crate::field::{Field, Variant};
 use crate::random::Random;
 
 /// A number taken apart into choices: the choices of a family have the same sizes each time, so that they number its cases.
-struct Choices {
+pub struct Choices {
     rest: u64,
     cases: u64,
 }
 
 impl Choices {
-    fn below(&mut self, size: usize) -> usize {
+    pub fn new(number: u64) -> Choices {
+        Choices { rest: number, cases: 1 }
+    }
+
+    pub fn below(&mut self, size: usize) -> usize {
         let choice = self.rest % size as u64;
         self.rest /= size as u64;
         self.cases *= size as u64;
         choice as usize
     }
 
-    fn of<'a, T>(&mut self, list: &'a [T]) -> &'a T {
+    pub fn of<'a, T>(&mut self, list: &'a [T]) -> &'a T {
         &list[self.below(list.len())]
     }
 }
@@ -134,7 +138,7 @@ const FAMILIES: [(Fielded, Called); 12] = [
 
 fn made(family: usize, number: u64, lists: &Lists) -> (Case, u64) {
     let (fielded, called) = FAMILIES[family];
-    let mut choices = Choices { rest: number, cases: 1 };
+    let mut choices = Choices::new(number);
     let mut random = Random::new(family as u64, number);
     let field = fielded(&mut choices, lists);
     let call = called(&mut choices, lists, &mut random);

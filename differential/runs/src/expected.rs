@@ -1,7 +1,9 @@
-//! What a call should answer: the rules of docs/RULES.md on slices, records and room, and for all else the original.
+//! What a call should answer: the rules of docs/RULES.md on slices, records and room, for values their model, and for all else the
+//! original.
 use crate::case::{Answer, Call, Case};
 use crate::field::{Field, Variant, is_numeric};
 use crate::original_side::{Refusal, coded_type};
+use crate::values;
 use original::diag_coded_type::DiagCodedType;
 
 /// What a run has met of the differences that docs/DIFFERENCES.md lists.
@@ -15,7 +17,7 @@ pub struct Met {
     pub room: u64,
 }
 
-const SLICE: usize = 65_535;
+pub const SLICE: usize = 65_535;
 const STORE: usize = 32_768;
 /// How long a payload may become under the original, in bytes.
 const NEAR: usize = 1 << 17;
@@ -28,6 +30,7 @@ pub fn expected(case: &Case, met: &mut Met) -> Answer {
         Call::Encode { input, payload, .. } => [input.len(), payload.len()],
         Call::Clear { payload, .. } | Call::Read { payload, .. } => [payload.len(), 0],
         Call::Fetch { table, number } => return fetched(table, *number, call),
+        Call::ReadValue { .. } | Call::WriteValue { .. } => return values::expected(call),
     };
     if record.len() > SLICE || store.len() > STORE || a > SLICE || b > SLICE {
         return Answer::refused(43, call);
@@ -95,7 +98,7 @@ fn answered(field: &Field, coded: &DiagCodedType, call: &Call, met: &mut Met) ->
             let place = if bytes.is_empty() { 0 } else { *byte_pos };
             Answer { report: [bit_count, bytes.len(), 0, 0], bytes, places: [place, 0, 0], ..Answer::default() }
         }
-        Call::Fetch { .. } => unreachable!("a fetch has no coded type"),
+        Call::Fetch { .. } | Call::ReadValue { .. } | Call::WriteValue { .. } => unreachable!("it has no coded type"),
     })
 }
 

@@ -5,9 +5,9 @@ use crate::field::{Field, UNICODE2, UTF8, Variant, is_numeric};
 use crate::library::{call, call_then};
 use crate::random::Random;
 use crate::tally::Tally;
-use crate::{damaged, large, random};
+use crate::{damaged, large, random, value_cases, value_faults};
 
-type Given = Result<Answer, &'static str>;
+pub type Given = Result<Answer, &'static str>;
 
 /// The case with its field changed. What the fault does not touch stays as it is, down to the record's bytes.
 fn on_field(case: &Case, change: impl Fn(&mut Field)) -> Case {
@@ -48,7 +48,7 @@ fn is_write(case: &Case) -> bool {
 }
 
 /// The library's answer, changed where it has the number.
-fn on_number(case: &Case, number: u32, change: impl Fn(&mut Answer)) -> Given {
+pub fn on_number(case: &Case, number: u32, change: impl Fn(&mut Answer)) -> Given {
     call(case).map(|mut answer| {
         if answer.number == number {
             change(&mut answer);
@@ -57,12 +57,12 @@ fn on_number(case: &Case, number: u32, change: impl Fn(&mut Answer)) -> Given {
     })
 }
 
-fn refused(case: &Case, number: u32) -> Given {
+pub fn refused(case: &Case, number: u32) -> Given {
     Ok(Answer::refused(number, &case.call))
 }
 
 /// What a fault makes of a case.
-type Faulty = fn(&Case) -> Given;
+pub type Faulty = fn(&Case) -> Given;
 
 const READING: [(&str, Faulty); 17] = [
     ("decode: a plain mask met from bit 0", |case| match (&case.call, Field::parse(&case.record, &case.store)) {
@@ -375,7 +375,7 @@ const AROUND: [(&str, Faulty); 14] = [
     }),
 ];
 
-/// The cases among which faults are looked for: of all four runs, the large ones rarely.
+/// The cases among which faults of the codec are looked for: of its four runs, the large ones rarely.
 fn mixed(lists: &Lists, short: u64, number: u64) -> Case {
     match number % 64 {
         0 => large::case(1, number),
@@ -387,26 +387,48 @@ fn mixed(lists: &Lists, short: u64, number: u64) -> Case {
     }
 }
 
-/// Prints at which call each fault shows, and answers whether all do.
-pub fn run() -> bool {
+/// The cases among which faults of the values are looked for: of both runs.
+fn mixed_values(number: u64) -> Case {
+    match number % 2 {
+        0 => value_cases::random(1, number),
+        _ => value_cases::short(Random::new(1, number).below(value_cases::SHORT_CALLS as usize) as u64),
+    }
+}
+
+/// Prints at which of the cases each fault shows, and counts those that do; none where a library without a fault shows one.
+fn noticed(without: Faulty, faults: &[&(&str, Faulty)], case: impl Fn(u64) -> Case) -> usize {
     const LOOK: u64 = 200_000;
+    let first = |library: Faulty| {
+        let mut tally = Tally::new();
+        (0..LOOK).find(|number| tally.compare(&case(*number), &library).is_some())
+    };
+    let quiet = first(without).is_none();
+    println!("no fault: {} in {LOOK} calls", if quiet { "nothing noticed" } else { "SOMETHING NOTICED" });
+    let mut count = 0;
+    for (name, faulty) in faults {
+        match first(*faulty) {
+            Some(number) => {
+                println!("{name}: noticed at call {}", number + 1);
+                count += usize::from(quiet);
+            }
+            None => println!("{name}: NOT NOTICED in {LOOK} calls"),
+        }
+    }
+    count
+}
+
+/// Looks for each fault, and answers whether all show.
+pub fn run() -> bool {
     let lists = Lists::new();
     let short = exhaustive::count(&lists);
     let faults: Vec<_> = READING.iter().chain(&WRITING).chain(&AROUND).collect();
-    let mut noticed = 0;
+    let of_values = value_faults::all();
     // taken apart and put together again without a fault, a case must not show one
-    let mut without = Tally::new();
     let unchanged: Faulty = |case| on_number(&on_mask(case, |_, _, _| {}), 0, |_| {});
-    let quiet = (0..LOOK).all(|number| without.compare(&mixed(&lists, short, number), &unchanged).is_none());
-    println!("no fault: {} in {LOOK} calls", if quiet { "nothing noticed" } else { "SOMETHING NOTICED" });
-    for (name, faulty) in &faults {
-        let mut tally = Tally::new();
-        match (0..LOOK).find(|number| tally.compare(&mixed(&lists, short, *number), faulty).is_some()) {
-            Some(number) => println!("{name}: noticed at call {}", number + 1),
-            None => println!("{name}: NOT NOTICED in {LOOK} calls"),
-        }
-        noticed += tally.differences as usize;
-    }
-    println!("{noticed} of {} faults noticed", faults.len());
-    quiet && noticed == faults.len()
+    let unchanged_value: Faulty = |case| on_number(&value_faults::on_form(case, |_, _, _| {}), 0, |_| {});
+    let count =
+        noticed(unchanged, &faults, |number| mixed(&lists, short, number)) + noticed(unchanged_value, &of_values, mixed_values);
+    let all = faults.len() + of_values.len();
+    println!("{count} of {all} faults noticed");
+    count == all
 }

@@ -1,6 +1,6 @@
 //! Our library, called as C calls it: everything lent stands between marks, so that a byte written beside it shows.
 use crate::case::{Answer, Call, Case};
-use dct::raw::{dct_class, dct_clear, dct_decode, dct_encode, dct_fetch, dct_read};
+use dct::raw::{dct_class, dct_clear, dct_decode, dct_encode, dct_fetch, dct_read, dct_value_read, dct_value_write};
 use std::ptr;
 
 const MARK: [u8; 16] = [0xC5; 16];
@@ -65,13 +65,15 @@ fn lending(case: &Case) -> ([&[u8]; 4], Option<usize>) {
         Call::Clear { payload, .. } => ([record, store, payload, &[]], Some(2)),
         Call::Read { payload, .. } => ([record, store, payload, &[]], None),
         Call::Fetch { table, .. } => ([table, &[], &[], &[]], None),
+        Call::ReadValue { bytes, .. } => ([bytes, &[], &[], &[]], None),
+        Call::WriteValue { bytes, .. } => ([bytes, &[], &[], &[]], Some(0)),
     }
 }
 
 /// Makes the call, and leaves the numbers that it gives in the answer.
 fn made(call: &Call, lent: &mut Lent, answer: &mut Answer) {
     let [(r, m), (s, n), (p, k), (q, l)] = [0, 1, 2, 3].map(|i| lent.pointer(i));
-    let Answer { report, used, places, .. } = answer;
+    let Answer { report, used, places, value, .. } = answer;
     let report = ptr::from_mut(report).cast();
     answer.number = unsafe {
         match *call {
@@ -80,6 +82,8 @@ fn made(call: &Call, lent: &mut Lent, answer: &mut Answer) {
             Call::Clear { used, byte_pos, bit_pos, .. } => dct_clear(r, m, s, n, p, k, used, byte_pos, bit_pos, report),
             Call::Read { byte_pos, byte_count, .. } => dct_read(r, m, s, n, p, k, byte_pos, byte_count, &mut places[0], report),
             Call::Fetch { number, .. } => dct_fetch(r, m, number, places),
+            Call::ReadValue { encoding, width, .. } => dct_value_read(encoding, width, r, m, value),
+            Call::WriteValue { encoding, width, value, .. } => dct_value_write(encoding, width, value, r, m),
         }
     };
     answer.class = unsafe { dct_class(answer.number) };
@@ -94,13 +98,15 @@ pub fn call(case: &Case) -> Result<Answer, &'static str> {
 pub fn call_then(case: &Case, spoil: fn(&mut Lent)) -> Result<Answer, &'static str> {
     let (before, written) = lending(case);
     let mut lent = Lent::new(before);
-    let (report, used, places) = match case.call {
-        Call::Encode { used, .. } => ([UNWRITTEN; 4], used, [0; 3]),
-        Call::Read { .. } => ([UNWRITTEN; 4], 0, [UNWRITTEN, 0, 0]),
-        Call::Fetch { .. } => ([0; 4], 0, [UNWRITTEN; 3]),
-        _ => ([UNWRITTEN; 4], 0, [0; 3]),
+    let (report, used, places, value) = match case.call {
+        Call::Encode { used, .. } => ([UNWRITTEN; 4], used, [0; 3], 0),
+        Call::Read { .. } => ([UNWRITTEN; 4], 0, [UNWRITTEN, 0, 0], 0),
+        Call::Fetch { .. } => ([0; 4], 0, [UNWRITTEN; 3], 0),
+        Call::Decode { .. } | Call::Clear { .. } => ([UNWRITTEN; 4], 0, [0; 3], 0),
+        Call::ReadValue { before, .. } => ([0; 4], 0, [0; 3], before),
+        Call::WriteValue { .. } => ([0; 4], 0, [0; 3], 0),
     };
-    let mut answer = Answer { report, used, places, ..Answer::default() };
+    let mut answer = Answer { report, used, places, value, ..Answer::default() };
     made(&case.call, &mut lent, &mut answer);
     spoil(&mut lent);
     if !lent.untouched(before, written) {

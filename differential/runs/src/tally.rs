@@ -1,6 +1,7 @@
 //! A run: cases by their numbers, the library's answer to each beside the expected one, and what was counted.
 use crate::case::{Answer, Call, Case, class, shown};
 use crate::expected::{Met, expected};
+use std::ops::Range;
 use std::sync::Mutex;
 use std::sync::atomic::{AtomicU64, Ordering};
 use std::thread;
@@ -15,14 +16,14 @@ pub struct Tally {
     pub differences: u64,
     pub met: Met,
     /// How often each call gave each number.
-    pub numbers: [[u64; 100]; 5],
+    pub numbers: [[u64; 100]; Call::NAMES.len()],
     /// How often each class arose, in the order of `class::ALL`.
     pub classes: [u64; 4],
 }
 
 impl Tally {
     pub fn new() -> Tally {
-        Tally { calls: 0, differences: 0, met: Met::default(), numbers: [[0; 100]; 5], classes: [0; 4] }
+        Tally { calls: 0, differences: 0, met: Met::default(), numbers: [[0; 100]; Call::NAMES.len()], classes: [0; 4] }
     }
 
     pub fn add(&mut self, other: &Tally) {
@@ -69,23 +70,22 @@ impl Tally {
 }
 
 /// The numbers that RULES 10 lets each call give, in the order of `Call::NAMES`.
-const NUMBERS: [&[u32]; 5] = [
+const NUMBERS: [&[u32]; Call::NAMES.len()] = [
     &[0, 10, 11, 12, 13, 20, 21, 22, 23, 24, 25, 26, 27, 30, 31, 32, 34, 37, 41, 42, 43],
     &[0, 10, 11, 12, 13, 20, 21, 22, 23, 24, 25, 26, 32, 33, 35, 36, 38, 40, 42, 43, 44],
     &[0, 10, 11, 12, 13, 21, 22, 23, 24, 26, 30, 36, 39, 42, 43, 44],
     &[0, 10, 11, 12, 13, 30, 42, 43],
     &[0, 10, 11, 12, 13, 42, 43, 45],
+    &[0, 43, 58, 60],
+    &[0, 43, 58, 59],
 ];
 
 impl Tally {
-    /// Prints how often each call gave each number, and answers whether each gave all that it can.
-    pub fn show_numbers(&self) -> bool {
-        let of_no_call: Vec<&u32> = dct::number::ALL.iter().filter(|n| !NUMBERS.iter().any(|of| of.contains(n))).collect();
-        let mut all = of_no_call.is_empty();
-        if !all {
-            println!("numbers of include/dct.h that no call is said to give: {of_no_call:?}");
-        }
-        for (kind, name) in Call::NAMES.iter().enumerate() {
+    /// Prints how often each of some calls gave each number, and answers whether each gave all that it can.
+    pub fn show_calls(&self, kinds: Range<usize>) -> bool {
+        let mut all = true;
+        for kind in kinds {
+            let name = Call::NAMES[kind];
             println!("{name}: {}", self.numbers_of(kind));
             let missing: Vec<&u32> = NUMBERS[kind].iter().filter(|n| self.numbers[kind][**n as usize] == 0).collect();
             if !missing.is_empty() {
@@ -93,6 +93,17 @@ impl Tally {
                 all = false;
             }
         }
+        all
+    }
+
+    /// Prints how often each call gave each number, and what else was counted, and answers whether nothing is missing.
+    pub fn show_numbers(&self) -> bool {
+        let of_no_call: Vec<&u32> = dct::number::ALL.iter().filter(|n| !NUMBERS.iter().any(|of| of.contains(n))).collect();
+        let mut all = of_no_call.is_empty();
+        if !all {
+            println!("numbers of include/dct.h that no call is said to give: {of_no_call:?}");
+        }
+        all &= self.show_calls(0..Call::NAMES.len());
         let classes: Vec<String> =
             class::ALL.iter().zip(self.classes).map(|(class, n)| format!("{}: {n}", shown(*class))).collect();
         println!("classes: {}", classes.join(", "));

@@ -1,5 +1,6 @@
 //! A call through the interface, and all that comes of it.
-use dct::{Field, Refusal};
+use crate::values;
+use dct::{Encoding, Field, Refusal};
 
 /// What a call is given.
 pub enum Call {
@@ -8,6 +9,17 @@ pub enum Call {
     Encode { field: Described, input: Vec<u8>, payload: Vec<u8>, used: usize, byte_pos: usize, bit_pos: usize },
     Clear { field: Described, payload: Vec<u8>, used: usize, byte_pos: usize, bit_pos: usize },
     Read { field: Described, payload: Vec<u8>, byte_pos: usize, byte_count: usize },
+    ValueRead { code: u32, width: usize, bytes: Vec<u8> },
+    ValueWrite { code: u32, width: usize, value: i64 },
+    DecodeValue { field: Described, encoding: Encoding, payload: Vec<u8>, byte_pos: usize, bit_pos: usize },
+    EncodeValue { field: Described, number: Number, payload: Vec<u8>, used: usize, byte_pos: usize, bit_pos: usize },
+}
+
+/// A number to be written, and how.
+pub struct Number {
+    pub encoding: Encoding,
+    pub width: usize,
+    pub value: i64,
 }
 
 /// A record and a store.
@@ -17,7 +29,7 @@ pub struct Described {
 }
 
 impl Described {
-    fn field(&self) -> Field<'_> {
+    pub fn field(&self) -> Field<'_> {
         Field { record: &self.record, store: &self.store }
     }
 }
@@ -34,7 +46,9 @@ pub struct Answer {
     pub used: usize,
     /// Where a part starts in the payload.
     pub place: usize,
-    /// All of the output or of the payload after the call; the part; the record.
+    /// The number that was read.
+    pub value: i64,
+    /// All of the output, of the payload or of a value's bytes after the call; the part; the record.
     pub bytes: Vec<u8>,
     pub store: Vec<u8>,
 }
@@ -56,6 +70,18 @@ impl From<Refusal> for Answer {
     }
 }
 
+impl From<Result<i64, Refusal>> for Answer {
+    fn from(got: Result<i64, Refusal>) -> Answer {
+        got.map_or_else(Answer::from, |value| Answer { value, ..Answer::default() })
+    }
+}
+
+impl From<Result<(), Refusal>> for Answer {
+    fn from(got: Result<(), Refusal>) -> Answer {
+        got.map_or_else(Answer::from, |()| Answer::default())
+    }
+}
+
 impl Call {
     pub fn name(&self) -> &'static str {
         match self {
@@ -64,6 +90,10 @@ impl Call {
             Call::Encode { .. } => "encode",
             Call::Clear { .. } => "clear",
             Call::Read { .. } => "read",
+            Call::ValueRead { .. } => "value_read",
+            Call::ValueWrite { .. } => "value_write",
+            Call::DecodeValue { .. } => "decode_value",
+            Call::EncodeValue { .. } => "encode_value",
         }
     }
 
@@ -81,14 +111,24 @@ impl Call {
             Call::Encode { field, input, payload, used, byte_pos, bit_pos } => {
                 let (mut bytes, mut used) = (payload.clone(), *used);
                 let got = dct::encode(field.field(), input, &mut bytes, &mut used, *byte_pos, *bit_pos);
-                Answer { used, bytes, ..got.map_or_else(Answer::from, |()| Answer::default()) }
+                Answer { used, bytes, ..got.into() }
             }
             Call::Clear { field, payload, used, byte_pos, bit_pos } => {
                 let mut bytes = payload.clone();
                 let got = dct::clear(field.field(), &mut bytes, *used, *byte_pos, *bit_pos);
-                Answer { bytes, ..got.map_or_else(Answer::from, |()| Answer::default()) }
+                Answer { bytes, ..got.into() }
             }
             Call::Read { field, payload, byte_pos, byte_count } => read(field, payload, *byte_pos, *byte_count),
+            Call::ValueRead { code, width, bytes } => values::read(*code, *width, bytes),
+            Call::ValueWrite { code, width, value } => values::written(*code, *width, *value),
+            Call::DecodeValue { field, encoding, payload, byte_pos, bit_pos } => {
+                dct::decode_value(field.field(), *encoding, payload, *byte_pos, *bit_pos).into()
+            }
+            Call::EncodeValue { field, number: Number { encoding, width, value }, payload, used, byte_pos, bit_pos } => {
+                let (field, mut bytes, mut used) = (field.field(), payload.clone(), *used);
+                let got = dct::encode_value(field, *encoding, *width, *value, &mut bytes, &mut used, *byte_pos, *bit_pos);
+                Answer { used, bytes, ..got.into() }
+            }
         }
     }
 }

@@ -1,6 +1,10 @@
 //! The cases of bindings/cases.txt, in the form that its head describes.
-use crate::call::{Answer, Call, Case, Described, BLANK};
+use crate::call::{Answer, Call, Case, Described, Number, BLANK};
+use crate::values;
+use dct::Encoding;
 use std::collections::HashMap;
+use std::fmt::Debug;
+use std::str::FromStr;
 
 const TEXT: &str = include_str!("../../../cases.txt");
 
@@ -10,13 +14,17 @@ struct Words<'t> {
     names: &'t HashMap<&'static str, Vec<u8>>,
 }
 
-impl Words<'_> {
-    fn word(&mut self) -> &str {
+impl<'t> Words<'t> {
+    fn word(&mut self) -> &'t str {
         self.words.next().expect("a word is missing")
     }
 
-    fn number(&mut self) -> usize {
+    fn number<N: FromStr<Err: Debug>>(&mut self) -> N {
         self.word().parse().expect("not a number")
+    }
+
+    fn encoding(&mut self) -> Encoding {
+        Encoding::try_from(self.number::<u32>()).expect("not an encoding")
     }
 
     fn bytes(&mut self) -> Vec<u8> {
@@ -59,12 +67,35 @@ impl Words<'_> {
                 byte_pos: self.number(),
                 byte_count: self.number(),
             },
+            other => self.call_of_a_value(other),
+        }
+    }
+
+    fn call_of_a_value(&mut self, name: &str) -> Call {
+        match name {
+            "value_read" => Call::ValueRead { code: self.number(), width: self.number(), bytes: self.bytes() },
+            "value_write" => Call::ValueWrite { code: self.number(), width: self.number(), value: self.number() },
+            "decode_value" => Call::DecodeValue {
+                field: self.described(),
+                encoding: self.encoding(),
+                payload: self.bytes(),
+                byte_pos: self.number(),
+                bit_pos: self.number(),
+            },
+            "encode_value" => Call::EncodeValue {
+                field: self.described(),
+                number: Number { encoding: self.encoding(), width: self.number(), value: self.number() },
+                payload: self.bytes(),
+                used: self.number(),
+                byte_pos: self.number(),
+                bit_pos: self.number(),
+            },
             other => panic!("no call {other}"),
         }
     }
 
     fn answer(&mut self, call: &Call) -> Answer {
-        let number = self.number() as u32;
+        let number = self.number();
         let mut answer = Answer { number, ..unchanged(call) };
         match (call, number) {
             (_, dct::number::NOT_ENOUGH_DATA) => (answer.expected, answer.actual) = (self.number(), self.number()),
@@ -76,8 +107,9 @@ impl Words<'_> {
                 answer.byte_count = read.len();
                 answer.bytes[..read.len()].copy_from_slice(&read);
             }
-            (Call::Encode { .. }, 0) => (answer.used, answer.bytes) = (self.number(), self.bytes()),
-            (Call::Clear { .. }, 0) => answer.bytes = self.bytes(),
+            (Call::Encode { .. } | Call::EncodeValue { .. }, 0) => (answer.used, answer.bytes) = (self.number(), self.bytes()),
+            (Call::Clear { .. } | Call::ValueWrite { .. }, 0) => answer.bytes = self.bytes(),
+            (Call::ValueRead { .. } | Call::DecodeValue { .. }, 0) => answer.value = self.number(),
             (Call::Read { .. }, 0) => {
                 (answer.bit_count, answer.place, answer.bytes) = (self.number(), self.number(), self.bytes());
                 answer.byte_count = answer.bytes.len();
@@ -91,9 +123,12 @@ impl Words<'_> {
 fn unchanged(call: &Call) -> Answer {
     match call {
         Call::Decode { room, .. } => Answer { bytes: vec![BLANK; *room], ..Answer::default() },
-        Call::Encode { payload, used, .. } => Answer { used: *used, bytes: payload.clone(), ..Answer::default() },
+        Call::Encode { payload, used, .. } | Call::EncodeValue { payload, used, .. } => {
+            Answer { used: *used, bytes: payload.clone(), ..Answer::default() }
+        }
         Call::Clear { payload, .. } => Answer { bytes: payload.clone(), ..Answer::default() },
-        Call::Fetch { .. } | Call::Read { .. } => Answer::default(),
+        Call::ValueWrite { width, .. } => Answer { bytes: values::blank(*width), ..Answer::default() },
+        Call::Fetch { .. } | Call::Read { .. } | Call::ValueRead { .. } | Call::DecodeValue { .. } => Answer::default(),
     }
 }
 

@@ -2,6 +2,7 @@
 mod call;
 mod cases;
 mod stored;
+mod values;
 
 use call::Case;
 use dct::{Class, Refusal};
@@ -76,15 +77,47 @@ fn case_read() {
     hold(&CASES, "read");
 }
 
-/// Name, number and sentence of each number of the header.
-fn header() -> Vec<(String, u32, String)> {
+#[test]
+fn case_value_read() {
+    hold(&CASES, "value_read");
+}
+
+#[test]
+fn case_value_write() {
+    hold(&CASES, "value_write");
+}
+
+#[test]
+fn case_decode_value() {
+    hold(&CASES, "decode_value");
+}
+
+#[test]
+fn case_encode_value() {
+    hold(&CASES, "encode_value");
+}
+
+/// Name, number and sentence of each line of an enum of the header, told by its first name.
+fn listed(first: &str) -> Vec<(String, u32, String)> {
     let numbered = |line: &str| {
         let (name, rest) = line.trim().strip_prefix("DCT_")?.split_once(" = ")?;
         let (number, rest) = rest.split_once("/*")?;
         let number = number.trim().trim_end_matches(',').parse().ok()?;
         Some((name.to_owned(), number, rest.strip_suffix("*/")?.trim().to_owned()))
     };
-    HEADER.lines().filter_map(numbered).collect()
+    let start = HEADER.find(&format!("    DCT_{first} = ")).expect("not in the header");
+    HEADER[start..].lines().take_while(|line| *line != "};").filter_map(numbered).collect()
+}
+
+fn header() -> Vec<(String, u32, String)> {
+    listed("OK")
+}
+
+#[test]
+fn encodings_of_the_header() {
+    let ours = values::ENCODINGS.map(|encoding| (format!("{encoding:?}").to_uppercase(), encoding as u32));
+    let named = |(name, code, _): (String, u32, String)| (name.replace('_', ""), code);
+    assert_eq!(listed("TWOS_COMPLEMENT").into_iter().map(named).collect::<Vec<_>>(), ours);
 }
 
 #[test]
@@ -97,14 +130,14 @@ fn every_number_arises() {
 
 #[test]
 fn numbers_of_the_header() {
-    let listed = |line: &str| {
+    let written = |line: &str| {
         let (name, rest) = line.trim().split_once(" = ")?;
         let (number, rest) = rest.split_once(", \"")?;
         Some((name.to_owned(), number.parse().ok()?, rest.strip_suffix("\";")?.to_owned()))
     };
-    let ours: Vec<(String, u32, String)> = NUMBERS.lines().filter_map(listed).collect();
+    let ours: Vec<(String, u32, String)> = NUMBERS.lines().filter_map(written).collect();
     assert_eq!(ours, header());
-    assert_eq!(ours.len() + classes().len(), HEADER.matches("    DCT_").count());
+    assert_eq!(ours.len() + classes().len() + listed("TWOS_COMPLEMENT").len(), HEADER.matches("    DCT_").count());
     for (_, number, sentence) in ours {
         assert_eq!(Refusal { number, expected: 0, actual: 0 }.meaning(), sentence);
     }
@@ -125,7 +158,7 @@ fn class_in_the_table(number: u32) -> Option<Class> {
     match number {
         10 | 37 => Some(Class::InvalidDatabase),
         30 => Some(Class::NotEnoughData),
-        39..=45 => Some(Class::Ours),
+        39..=45 | 58..=60 => Some(Class::Ours),
         _ if number != dct::number::OK && dct::number::ALL.contains(&number) => Some(Class::BadPayload),
         _ => None,
     }

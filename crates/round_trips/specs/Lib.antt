@@ -1,0 +1,2 @@
+-- `RoundTrips` states that values are read back and written back.
+pub mod RoundTrips

@@ -1,0 +1,2 @@
+-- `Cases` has the ways through the two calls.
+pub mod Cases

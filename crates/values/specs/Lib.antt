@@ -1,0 +1,2 @@
+-- `Values` has the two calls.
+pub mod Values
