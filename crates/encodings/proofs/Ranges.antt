@@ -1,6 +1,6 @@
 -- The range as comparisons of magnitudes, and the bits of a number.
 use mathlib.Core.Path.{_≡_, refl, sym, ap, _∙_}
-use mathlib.Core.Bool.{Bool, true, false, _&&_, true≢false}
+use mathlib.Core.Bool.{Bool, true, false, _&&_, and-true, true≢false}
 use Prim.Native.Nat.{ℕ, zero, suc, _+_, _-_, _^_, _≤_, _<_}
 use native.Mathlib.Omega.{arith}
 use lib.Dec.{leb, leb·suc-suc}
@@ -16,10 +16,6 @@ use Rattle.numerals.proofs.Halves.{halves}
 least-below : (d n : ℕ) → leZ (negℤ (pos d)) (pos n) ≡ true
 least-below zero n = le-leb 0 n (omega arith)
 least-below (suc d) n = refl
-
-and-true : (t : Bool) → (t && true) ≡ t
-and-true true = refl
-and-true false = refl
 
 below-least : (d n : ℕ) → leZ (negℤ (pos d)) (negsuc n) ≡ leb (suc n) d
 below-least zero n = sym (lt-leb (suc n) 0 (omega arith))
