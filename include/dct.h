@@ -22,8 +22,6 @@
  *   - MinMaxLength does not look at its limits when it is written. Compare the input's length with them first.
  *   - A field that needs a byte more than its length takes, as 8 bits at bit 4, is written across a byte edge and not read: refusal
  *     27. Write and read whole bytes under a condensed mask, here 16 bits at bit 0 under 0F F0.
- *   - The bit count of a reading has also the ones of a condensed mask that meet no bit of the field, so a bit count of 16 can stand
- *     beside a single byte: struct dct_report draws why. Go by gathered, which says how many bits were gathered.
  *
  * What the caller owes, since nothing can test it:
  *   - each pointer holds what the length after it says; it may be null where that length is 0;
@@ -47,13 +45,10 @@ extern "C" {
 #endif
 
 /* The version of the library that this header belongs to. Within a major version no number, no name and no parameter changes its
- * meaning; a minor version may add functions and numbers.
- *
- * What 2.0.0 changed: struct dct_report has a fifth number, gathered, and the library writes all five. An object that was built with a
- * header of 1.x has room for four alone, and the fifth would be written past it. Build it anew with this header. */
-#define DCT_VERSION "2.0.0"
-#define DCT_VERSION_MAJOR 2
-#define DCT_VERSION_MINOR 0
+ * meaning; a minor version may add functions and numbers. */
+#define DCT_VERSION "1.4.0"
+#define DCT_VERSION_MAJOR 1
+#define DCT_VERSION_MINOR 4
 #define DCT_VERSION_PATCH 0
 
 /* What a call answers: DCT_OK, or the number of its refusal. */
@@ -108,35 +103,13 @@ enum {
     DCT_PACKED_DECIMAL = 4   /* a decimal digit in each 4 bits and no sign, from 0 to 10^(w/4)-1; w is a multiple of 4 */
 };
 
-/* What a call reports besides its number; each call that takes a report writes all five. bit_count, byte_count and gathered are 0
- * unless something was read, expected and actual are 0 unless the number is DCT_NOT_ENOUGH_DATA.
- *
- * Which to trust: byte_count says how many bytes there are. Of these the lowest gathered bits mean something, and all bits above those
- * are 0. Where the bytes have fewer bits than that, all of them mean something, and others were gathered and lost. bit_count is to
- * compare with the Rust. Without a condensed mask it is the same as gathered.
- *
- * Under a condensed mask it can be more. Such a mask is laid from its front: byte j of the field, right-aligned and with the most
- * significant byte first, meets byte j of the mask, and only a one that meets a bit of the field gathers it. The bit count counts all
- * ones of the mask, but no more than the length. Here 16 bits are read from the payload 00 01 under the condensed mask 00 01 FF FF:
- *
- *     field   00  01
- *              |   |              each byte of the field meets the mask byte below it
- *     mask    00  01  FF  FF
- *              |   |   |___|____  meet no byte of the field: their 16 ones gather nothing
- *              |   |____________  its one meets bit 0 of the field, a 1, and gathers it
- *              |________________  met, but it has no ones: it gathers nothing
- *
- *     output  01                  0000000[1]: the bit that was gathered, and zeros above it
- *     report  bit_count  16       the mask has 17 ones, and the field 16 bits
- *             byte_count  1       two bytes for 16 bits, and one of them is taken off the front
- *             gathered    1       one bit of it means something
- */
+/* What a call reports besides its number; it is written on every call. The counts are 0 unless something was read, expected
+ * and actual are 0 unless the number is DCT_NOT_ENOUGH_DATA. */
 struct dct_report {
-    size_t bit_count;  /* the bit count of the Rust that the library follows; for comparing with it, and not for any width or size */
-    size_t byte_count; /* bytes at the output's front, or of the part that dct_read found; trust it for how many bytes there are */
+    size_t bit_count;  /* bits that were read; under a condensed mask as many as it has ones, at most the length */
+    size_t byte_count; /* bytes of the output that they take */
     size_t expected;   /* where the field would end, counted from the payload's start */
     size_t actual;     /* where the payload ends, or for dct_clear its used bytes */
-    size_t gathered;   /* how many bits were gathered, at most bit_count; trust it for how many of the bits mean something */
 };
 
 /* Reads the field at a byte and a bit position of the payload into the front of the output. */
@@ -181,9 +154,9 @@ uint32_t dct_fetch(const uint8_t *table, size_t table_length,
                    size_t places[3]);
 
 /* Reads the number that bytes say in an encoding, one of those above, into *value. The bytes are as many as the width takes, the
- * number right-aligned in them, as a decode gives it; the width is then the report's gathered. Bits above the width are ignored. Under a
- * condensed mask a decode may give more bytes than gathered takes: then pass the last of them. It may also give fewer, where bits were
- * lost, and then there is no value to read. */
+ * number right-aligned in them, as a decode gives it; the width is then the report's bit count. Bits above the width are ignored.
+ * That bit count has also the ones of a condensed mask that meet no bit of the field, and then the number may be another: give such
+ * a field whole bytes, and its mask no more of them. */
 uint32_t dct_value_read(uint32_t encoding, size_t width,
                         const uint8_t *bytes, size_t bytes_length,
                         int64_t *value);

@@ -1,9 +1,8 @@
 /* Calls the library as C can: every value of each byte of a record, and records of bytes drawn at random; every length of each
  * slice from 0 to past its limit; positions up to the largest number; values of every width in every encoding, and of codes and widths
  * that are refused. Sees that each call ends in an answer or in a refusal that docs/RULES.md knows, that the limits are refused just
- * where they are passed, that a refusal changes nothing, that each number of a report is written, that as many bits are gathered as ones
- * meet a bit of the field and no others are set, that a value is what its bits say, that an empty slice may be a null pointer, and that
- * each number has its class, its name and its sentence.
+ * where they are passed, that a refusal changes nothing, that a value is what its bits say, that an empty slice may be a null pointer,
+ * and that each number has its class, its name and its sentence.
  *
  * Each slice ends where a page ends that cannot be touched, so a byte read or written past it stops the program.
  */
@@ -17,9 +16,6 @@
 #include "dct.h"
 
 enum { ROOM = 17 * 4096, PAGE = 4096, SLICE = 65535, STORE = 32768, RECORD = 16, FILL = 0xA5, BESIDE = 64 };
-
-/* What each number of a report holds before a call: none of those that calls here give. */
-enum { MARK = 0x5A5A5A5A };
 
 static uint64_t calls, counted[256];
 
@@ -83,7 +79,7 @@ struct question {
     size_t used, byte_pos, bit_pos;
 };
 
-static const struct dct_report unwritten = {MARK, MARK, MARK, MARK, MARK}, none = {0, 0, 0, 0, 0};
+static const struct dct_report nothing = {9, 9, 9, 9}, none = {0, 0, 0, 0};
 
 static int is_known(uint32_t answer)
 {
@@ -91,29 +87,15 @@ static int is_known(uint32_t answer)
     return answer < 256 && memchr(known, (int)answer, sizeof known) != NULL;
 }
 
-static int counts_nothing(const struct dct_report *report)
-{
-    return report->bit_count == 0 && report->byte_count == 0 && report->gathered == 0;
-}
-
-static int is_written(const struct dct_report *report)
-{
-    return report->bit_count != MARK && report->byte_count != MARK && report->expected != MARK && report->actual != MARK &&
-           report->gathered != MARK;
-}
-
 /* What holds of every report. */
 static void judge(uint32_t answer, const struct dct_report *report)
 {
     calls++;
     take(answer), take(report->bit_count), take(report->byte_count), take(report->expected), take(report->actual);
-    take(report->gathered);
     hold(is_known(answer), "a number that the table of refusals does not have", answer);
     counted[answer]++;
-    hold(is_written(report), "a number of the report that is not written", answer);
-    hold(report->gathered <= report->bit_count, "more bits gathered than counted", answer);
     if (answer != DCT_OK)
-        hold(counts_nothing(report), "a refusal with counts", answer);
+        hold(report->bit_count == 0 && report->byte_count == 0, "a refusal with counts", answer);
     if (answer != DCT_NOT_ENOUGH_DATA)
         hold(report->expected == 0 && report->actual == 0, "expected or actual without 30", answer);
     else
@@ -145,58 +127,9 @@ static int is_filled(const uint8_t *from, const uint8_t *start)
     return is_filled_to(from, start + ROOM);
 }
 
-static size_t big_endian(const uint8_t *bytes, size_t count)
+static void decode(const struct question *q)
 {
-    size_t number = 0, i;
-    for (i = 0; i < count; i++)
-        number = 256 * number + bytes[i];
-    return number;
-}
-
-/* Whether bit i of a field meets a one of a condensed mask, which is laid from its front: RULES 4.3. */
-static int meets_a_one(const uint8_t *mask, size_t mask_length, size_t length, size_t i)
-{
-    size_t at = (length + 7) / 8 - 1 - i / 8;
-    return at < mask_length && (mask[at] >> i % 8 & 1);
-}
-
-/* How many bits a decode gathers that counts so many: RULES 4.9 and 5.16. */
-static size_t to_gather(const uint8_t *record, const uint8_t *store, size_t bit_count)
-{
-    enum { STANDARD = 3, CONDENSED_MASK = 6 };
-    size_t length = big_endian(record + 4, 4), met = 0, i;
-    if (record[2] != STANDARD || (record[1] & CONDENSED_MASK) != CONDENSED_MASK)
-        return bit_count;
-    for (i = 0; i < length; i++)
-        met += (size_t)meets_a_one(store + big_endian(record + 12, 2), big_endian(record + 14, 2), length, i);
-    return met;
-}
-
-/* Whether all bits from a place on are 0, counted from the last byte. */
-static int is_zero_from(const uint8_t *bytes, size_t length, size_t from)
-{
-    size_t above = length - (from / 8 < length ? from / 8 : length), i;
-    for (i = 0; i + 1 < above; i++)
-        if (bytes[i] != 0)
-            return 0;
-    return above == 0 || bytes[above - 1] >> from % 8 == 0;
-}
-
-static uint64_t fewer;      /* decodes that gathered fewer bits than they count */
-static uint8_t was_read[64]; /* the first bytes of what the last decode read */
-
-/* Of a decode that succeeded: how many bits it gathered, and that no bit above those is set, which is RULES 5.17. */
-static void judge_gathered(const struct question *q, const uint8_t *output, const struct dct_report *report)
-{
-    size_t wanted = to_gather(last(records, q->record), last(stores, q->store), report->bit_count);
-    hold(report->gathered == wanted, "another number of bits gathered than ones meet a bit", DCT_OK);
-    hold(is_zero_from(output, report->byte_count, report->gathered), "a bit above those that were gathered", DCT_OK);
-    fewer += report->gathered < report->bit_count;
-}
-
-static struct dct_report decode(const struct question *q)
-{
-    struct dct_report report = unwritten;
+    struct dct_report report = nothing;
     uint8_t *output = last(outputs, q->output);
     uint32_t answer = dct_decode(lent(records, q->record), q->record, lent(stores, q->store), q->store,
                                  lent(payloads, q->payload), q->payload, q->byte_pos, q->bit_pos, lent(outputs, q->output), q->output,
@@ -205,17 +138,13 @@ static struct dct_report decode(const struct question *q)
     judge_prefix(answer, q, q->payload, q->output, 0);
     hold(report.byte_count <= q->output, "more bytes than the output has", answer);
     hold(is_filled(output + report.byte_count, outputs), "output changed past the result", answer);
-    if (answer == DCT_OK)
-        judge_gathered(q, output, &report);
     take_bytes(output, q->output);
-    memcpy(was_read, output, report.byte_count < sizeof was_read ? report.byte_count : sizeof was_read);
     memset(output, FILL, report.byte_count);
-    return report;
 }
 
 static void read_part(const struct question *q)
 {
-    struct dct_report report = unwritten;
+    struct dct_report report = nothing;
     size_t place = 9;
     uint32_t answer = dct_read(lent(records, q->record), q->record, lent(stores, q->store), q->store,
                                lent(payloads, q->payload), q->payload, q->byte_pos, q->output, &place, &report);
@@ -223,8 +152,7 @@ static void read_part(const struct question *q)
     judge_prefix(answer, q, q->payload, 0, 0);
     hold(place <= q->payload && report.byte_count <= q->payload - place, "a part outside the payload", answer);
     if (answer == DCT_OK)
-        hold(report.byte_count == q->output && report.bit_count == 8 * report.byte_count && report.gathered == report.bit_count,
-             "another part than asked", answer);
+        hold(report.byte_count == q->output && report.bit_count == 8 * report.byte_count, "another part than asked", answer);
     if (report.byte_count == 0)
         hold(place == 0, "a place without a part", answer);
     take(place);
@@ -232,14 +160,14 @@ static void read_part(const struct question *q)
 
 static void encode(const struct question *q)
 {
-    struct dct_report report = unwritten;
+    struct dct_report report = nothing;
     size_t used = q->used;
     uint8_t *payload = last(payloads, q->payload);
     uint32_t answer = dct_encode(lent(records, q->record), q->record, lent(stores, q->store), q->store, lent(inputs, q->input),
                                  q->input, lent(payloads, q->payload), q->payload, &used, q->byte_pos, q->bit_pos, &report);
     judge(answer, &report);
     judge_prefix(answer, q, q->input, q->payload, q->used);
-    hold(counts_nothing(&report), "an encode that counts", answer);
+    hold(report.byte_count == 0, "an encode that counts", answer);
     if (answer != DCT_OK)
         hold(used == q->used && is_filled(payload, payloads), "a refused encode that changed something", answer);
     else
@@ -250,13 +178,13 @@ static void encode(const struct question *q)
 
 static void clear(const struct question *q)
 {
-    struct dct_report report = unwritten;
+    struct dct_report report = nothing;
     uint8_t *payload = last(payloads, q->payload);
     uint32_t answer = dct_clear(lent(records, q->record), q->record, lent(stores, q->store), q->store, lent(payloads, q->payload), q->payload,
                                 q->used, q->byte_pos, q->bit_pos, &report);
     judge(answer, &report);
     judge_prefix(answer, q, 0, q->payload, q->used);
-    hold(counts_nothing(&report), "a clear that counts", answer);
+    hold(report.byte_count == 0, "a clear that counts", answer);
     if (answer != DCT_OK)
         hold(is_filled(payload, payloads), "a refused clear that changed something", answer);
     else
@@ -267,7 +195,7 @@ static void clear(const struct question *q)
 
 static void all(const struct question *q)
 {
-    (void)decode(q);
+    decode(q);
     read_part(q);
     encode(q);
     clear(q);
@@ -454,89 +382,6 @@ static void records_at_random(int count)
         q.store = drawn() % 6;
         all(&q);
     }
-}
-
-/* Readings with their numbers: bench cases i, j and k of RULES 13; bits that were gathered and lost; nine gathered of ten counted; masks
- * that are shorter than the field, with ones above the length, without ones and without bytes; condensed without a mask; a plain mask. */
-static const struct {
-    uint8_t length, flags, mask_length, mask[5], payload[3];
-    struct dct_report report;
-    uint8_t output[3];
-} readings[] = {
-    {8, 7, 1, {0xF0}, {0xA5}, {4, 1, 0, 0, 4}, {0x0A}},
-    {4, 7, 1, {0xF0}, {0x0F}, {4, 1, 0, 0, 0}, {0x00}},
-    {16, 7, 4, {0x00, 0x01, 0xFF, 0xFF}, {0x00, 0x01}, {16, 1, 0, 0, 1}, {0x01}},
-    {24, 7, 5, {0x00, 0xFF, 0xFF, 0xFF, 0xFF}, {0x11, 0x22, 0x33}, {24, 1, 0, 0, 16}, {0x33}},
-    {16, 7, 3, {0x01, 0xFF, 0x80}, {0xFF, 0xFF}, {10, 2, 0, 0, 9}, {0x01, 0xFF}},
-    {16, 7, 1, {0xFF}, {0xAB, 0x12}, {8, 1, 0, 0, 8}, {0xAB}},
-    {12, 7, 1, {0xFF}, {0x0A, 0xBC}, {8, 1, 0, 0, 4}, {0x0A}},
-    {8, 7, 1, {0x00}, {0xFF}, {0, 0, 0, 0, 0}, {0}},
-    {8, 7, 0, {0}, {0xFF}, {0, 0, 0, 0, 0}, {0}},
-    {8, 5, 0, {0}, {0xA5}, {8, 1, 0, 0, 8}, {0xA5}},
-    {8, 3, 1, {0x0F}, {0xA5}, {8, 1, 0, 0, 8}, {0x05}},
-};
-
-static void readings_told(void)
-{
-    struct question q = {RECORD, 0, 3, 0, 3, 0, 0, 0};
-    uint8_t bytes[RECORD] = {2, 0, 3};
-    struct dct_report report;
-    size_t i;
-    for (i = 0; i < sizeof readings / sizeof readings[0]; i++) {
-        bytes[1] = readings[i].flags, bytes[7] = readings[i].length, bytes[15] = readings[i].mask_length;
-        record(bytes);
-        q.store = readings[i].mask_length;
-        memcpy(last(stores, q.store), readings[i].mask, q.store);
-        memcpy(last(payloads, q.payload), readings[i].payload, q.payload);
-        report = decode(&q);
-        hold(memcmp(&report, &readings[i].report, sizeof report) == 0, "a reading that gives other numbers", (uint32_t)i);
-        hold(memcmp(was_read, readings[i].output, report.byte_count) == 0, "a reading that gives other bytes", (uint32_t)i);
-    }
-    memset(last(payloads, q.payload), FILL, q.payload);
-}
-
-/* The bits of a field that meet a one, closed up, in as many bytes as were read: RULES 4.4 and 4.6. */
-static void gather(const uint8_t *mask, size_t mask_length, const uint8_t *field, size_t length, uint8_t *closed,
-                   size_t closed_length)
-{
-    size_t whole = (length + 7) / 8, put = 0, i;
-    memset(closed, 0, closed_length);
-    for (i = 0; i < length; i++) {
-        if (!meets_a_one(mask, mask_length, length, i))
-            continue;
-        if (put / 8 < closed_length)
-            closed[closed_length - 1 - put / 8] |= (uint8_t)((field[whole - 1 - i / 8] >> i % 8 & 1) << put % 8);
-        put++;
-    }
-}
-
-/* Fields of every length under condensed masks drawn at random. Each is read without the mask first, and what the mask gathers is worked
- * out from that. */
-static void condensed_masks(int count)
-{
-    enum { LONGEST = 8, MASK = 11 };
-    struct question q = {RECORD, MASK, LONGEST, 0, LONGEST, 0, 0, 0};
-    uint8_t bytes[RECORD] = {2, 0, 3}, field[LONGEST], closed[LONGEST], *mask = last(stores, MASK);
-    struct dct_report report;
-    int i, at;
-    for (i = 0; i < count; i++) {
-        bytes[1] = (uint8_t)(drawn() % 2), bytes[7] = (uint8_t)(1 + drawn() % 64), bytes[15] = 0;
-        q.bit_pos = drawn() % 2 ? drawn() % 8 : 0;
-        for (at = 0; at < MASK; at++)
-            mask[at] = (uint8_t)(drawn() % 3 ? drawn() : drawn() % 2 ? 0 : 0xFF);
-        for (at = 0; at < LONGEST; at++)
-            last(payloads, LONGEST)[at] = (uint8_t)drawn();
-        record(bytes);
-        if (decode(&q).gathered == 0)
-            continue; /* across a byte edge, and so refused */
-        memcpy(field, was_read, LONGEST);
-        bytes[1] |= 6, bytes[15] = (uint8_t)(drawn() % (MASK + 1));
-        record(bytes);
-        report = decode(&q);
-        gather(mask, bytes[15], field, bytes[7], closed, report.byte_count);
-        hold(memcmp(was_read, closed, report.byte_count) == 0, "other bits than the mask gathers", DCT_OK);
-    }
-    memset(last(payloads, LONGEST), FILL, LONGEST);
 }
 
 /* Each slice alone at every length with one record; then every kind of field with several slices at lengths near the limits,
@@ -727,9 +572,6 @@ int main(void)
     values = region();
     every_byte_of_a_record();
     records_at_random(1000000);
-    readings_told();
-    condensed_masks(1000000);
-    hold(fewer > 100000, "too few decodes that gather fewer bits than they count", 0);
     every_length();
     empty_by_null();
     tables_too();

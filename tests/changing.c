@@ -35,7 +35,7 @@ static const char *const statements[ALL_HOLD] = {
     [E_CLEAR] = "(e) a clear zeroes its own bits alone",
 };
 
-enum { FILL = 0xA5, RUBBISH = 0x5A5A5A5A, FAULT_CALLS = 200000, CALLS_FOR_ALL_KINDS = 100000, SHOWN = 64 };
+enum { FILL = 0xA5, FAULT_CALLS = 200000, CALLS_FOR_ALL_KINDS = 100000, SHOWN = 64 };
 
 static const char *const kinds[KINDS] = {
     [OVERLAP] = "overlapping cut-outs",
@@ -73,8 +73,6 @@ static const struct {
     [GROWS_TO_ROOM] = {A_USED, "an encode that uses all of the slice"},
     [REFUSES] = {A_ENCODE, "an encode refused now and then"},
     [TELLS_NOTHING] = {A_ENCODE, "an encode that writes no report"},
-    [TELLS_FOUR] = {A_ENCODE, "an encode that writes no fifth number of the report"},
-    [GATHERS] = {A_ENCODE, "an encode that gathers"},
     [WRITES_BEFORE] = {G_LENT, "an encode that writes the byte before the payload"},
     [WRITES_BEHIND] = {H_BEHIND, "an encode that writes the byte behind the used ones"},
     [ZEROES_BEHIND] = {H_BEHIND, "an encode that zeroes all bytes behind the used ones"},
@@ -85,12 +83,10 @@ static const struct {
     [CLEARS_MORE] = {B_ANEW, "a clear that clears a bit beside its own"},
     [REFUSES_CLEAR] = {A_CLEAR, "a clear refused now and then"},
     [CLEAR_COUNTS] = {A_CLEAR, "a clear that counts"},
-    [CLEAR_GATHERS] = {A_CLEAR, "a clear that gathers"},
     [CLEARS_BEFORE] = {G_LENT, "a clear that writes the byte before the payload"},
     [CLEARS_BEHIND] = {H_BEHIND, "a clear that writes the last byte of the slice"},
     [COUNTS_MORE] = {D_COUNTS, "a decode that counts a bit more"},
     [COUNTS_LESS] = {D_COUNTS, "a decode that counts a bit less"},
-    [GATHERS_LESS] = {D_COUNTS, "a decode that gathers a bit less"},
     [READS_MORE] = {D_BITS, "a decode that gives a bit more"},
     [READS_LESS] = {D_BITS, "a decode that gives a bit less"},
     [WRITES_PAST] = {D_REST, "a decode that writes past its result"},
@@ -124,14 +120,11 @@ static void hold(int true_, int statement)
     failed_at = calls;
 }
 
-/* No call here gives such a number. */
-static const struct dct_report rubbish = {RUBBISH, RUBBISH, RUBBISH, RUBBISH, RUBBISH};
+static const struct dct_report rubbish = {9, 9, 9, 9};
 
-/* What is read back has no condensed mask, and so all bits that are counted are gathered. */
 static int is_report(const struct dct_report *report, size_t bit_count, size_t byte_count)
 {
-    return report->bit_count == bit_count && report->byte_count == byte_count && report->expected == 0 && report->actual == 0 &&
-           report->gathered == bit_count;
+    return report->bit_count == bit_count && report->byte_count == byte_count && report->expected == 0 && report->actual == 0;
 }
 
 /* Neither before what is lent nor behind what is used. */

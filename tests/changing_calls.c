@@ -160,14 +160,11 @@ static void spoil_payload(const struct list *l, const struct field *f, uint8_t *
         memset(payload + l->used, 0, l->room - l->used);
 }
 
-static uint32_t spoil_encode(const struct list *l, const struct field *f, uint8_t *payload, size_t *used,
-                             struct dct_report *report, size_t gathered_before, uint32_t answer)
+static uint32_t spoil_encode(const struct list *l, const struct field *f, uint8_t *payload, size_t *used, uint32_t answer)
 {
     spoil_payload(l, f, payload);
     *used += fault == GROWS;
     *used = fault == GROWS_TO_ROOM ? l->room : *used;
-    report->gathered += fault == GATHERS ? f->bits : 0;
-    report->gathered = fault == TELLS_FOUR ? gathered_before : report->gathered;
     decoded = 0;
     return fault == REFUSES && refuse(l, payload) ? DCT_PAYLOAD_LACKS_ROOM : answer;
 }
@@ -188,7 +185,6 @@ static uint32_t spoil_clear(const struct list *l, const struct field *f, uint8_t
     if (fault == CLEARS_BEHIND && l->room > l->used)
         payload[l->room - 1] ^= 1;
     report->bit_count += fault == CLEAR_COUNTS ? f->bits : 0;
-    report->gathered += fault == CLEAR_GATHERS ? f->bits : 0;
     return fault == REFUSES_CLEAR && refuse(l, payload) ? DCT_NOT_CLEARABLE : answer;
 }
 
@@ -197,7 +193,6 @@ static void spoil_decode(uint8_t *output, size_t length, struct dct_report *repo
     decoded = 1;
     report->bit_count += fault == COUNTS_MORE;
     report->bit_count -= fault == COUNTS_LESS;
-    report->gathered -= fault == GATHERS_LESS;
     if (fault == READS_BEFORE)
         output[-1] = 0;
     if (fault == READS_MORE)
@@ -212,7 +207,6 @@ uint32_t encode(const struct list *l, const struct field *f, const struct value 
                 struct dct_report *report)
 {
     struct dct_report untold, *told = fault == TELLS_NOTHING ? &untold : report;
-    size_t gathered_before = report->gathered;
     uint32_t answer;
     calls++;
     if (fault != NONE)
@@ -221,7 +215,7 @@ uint32_t encode(const struct list *l, const struct field *f, const struct value 
         dct_clear(record(f), RECORD, store(l), l->store_length, payload, l->room, l->used, f->byte_pos, f->bit_pos, told);
     answer = dct_encode(record(f), RECORD, store(l), l->store_length, input(v), v->length, payload, l->room, used, f->byte_pos,
                         f->bit_pos, told);
-    return fault == NONE ? answer : spoil_encode(l, f, payload, used, report, gathered_before, answer);
+    return fault == NONE ? answer : spoil_encode(l, f, payload, used, answer);
 }
 
 uint32_t clear(const struct list *l, const struct field *f, uint8_t *payload, struct dct_report *report)

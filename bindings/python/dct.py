@@ -12,7 +12,7 @@ import os
 import platform
 from typing import NamedTuple, Union
 
-__version__ = "2.0.0"
+__version__ = "1.4.0"
 
 _MEANINGS = {}
 
@@ -74,17 +74,10 @@ class Field(NamedTuple):
 
 
 class Reading(NamedTuple):
-    """What was read. `data` are all the bytes that there are, and of these the lowest `gathered` bits mean something.
-
-    All bits above those are 0. Where the data have fewer bits than `gathered`, all of them mean something, and others were gathered and
-    lost. `bit_count` is that of the Rust that the library follows: compare it with the Rust's, and take no width from it. It is the same as
-    `gathered` but under a condensed mask, whose ones it counts also where they meet no bit of the field: 16 bits read from 00 01 under
-    00 01 FF FF give one byte, 01, a bit count of 16, and 1 gathered.
-    """
+    """What was read. The bit count follows from the field, and not from how many bytes there are."""
 
     data: Union[bytes, memoryview]
     bit_count: int
-    gathered: int
 
 
 class Class(enum.Enum):
@@ -138,7 +131,7 @@ class Refusal(Exception):
 
 
 class _Report(ctypes.Structure):
-    _fields_ = [(name, ctypes.c_size_t) for name in ("bit_count", "byte_count", "expected", "actual", "gathered")]
+    _fields_ = [(name, ctypes.c_size_t) for name in ("bit_count", "byte_count", "expected", "actual")]
 
 
 def _found():
@@ -174,17 +167,6 @@ def _for_this_machine(path, advice):
         raise ImportError(f"dct: {path} is code for {code}, and this Python runs on {here}: {advice}")
 
 
-def _writes_the_report(library):
-    """Whether a call writes all of a report and nothing behind it. A library of another major version may have every name, and write
-    fewer numbers, as those of 1.x do, or more."""
-    numbers, behind, mark = len(_Report._fields_), 3, 0x5A
-    room = (ctypes.c_size_t * (numbers + behind))(*[mark] * (numbers + behind))
-    nothing, output = [b"", 0], ctypes.create_string_buffer(1)
-    # a record of no bytes is refused, and so each number is 0
-    library.dct_decode(*nothing * 3, 0, 0, output, 0, ctypes.cast(room, ctypes.POINTER(_Report)))
-    return list(room) == [0] * numbers + [mark] * behind
-
-
 def _loaded():
     """The shared object with its functions declared; ImportError where there is none for this machine and of this version."""
     advice = "'bindings/shared' builds libdct.so, for x86-64; or set DCT_LIBRARY to another"
@@ -211,8 +193,6 @@ def _loaded():
             raise ImportError(f"dct: {path} has no {name}: it is of another version than dct.py, {__version__}; {advice}")
         function = getattr(library, name)
         function.argtypes, function.restype = types, ctypes.c_uint32
-    if not _writes_the_report(library):
-        raise ImportError(f"dct: {path} writes another report: it is of another version than dct.py, {__version__}; {advice}")
     return library
 
 
@@ -299,7 +279,7 @@ def decode(field, payload, byte_pos=0, bit_pos=0, room=65535):
     """Reads the field at a byte and a bit position of the payload. More than `room` bytes are refused.
 
     The most significant byte comes first, of low-high fields too. A number is right-aligned, and an Int32 is not sign-extended;
-    `decode_value` gives a signed number. `Reading` tells which of its numbers to trust.
+    `decode_value` gives a signed number.
     """
     position = [_number("byte_pos", byte_pos), _number("bit_pos", bit_pos)]
     # what is longer is refused alike, and may be more than there is memory for
@@ -308,7 +288,7 @@ def decode(field, payload, byte_pos=0, bit_pos=0, room=65535):
     output, report = ctypes.create_string_buffer(room + 1), _Report()
     number = _library.dct_decode(*lent, *position, output, room, ctypes.byref(report))
     _answered(number, report)
-    return Reading(output[: report.byte_count], report.bit_count, report.gathered)
+    return Reading(output[: report.byte_count], report.bit_count)
 
 
 def encode(field, input, payload, used, byte_pos=0, bit_pos=0):
@@ -357,14 +337,13 @@ def read(field, payload, byte_pos, byte_count):
         lent += _lent("payload", view)
         number = _library.dct_read(*lent, *asked, ctypes.byref(place), ctypes.byref(report))
         _answered(number, report)
-        return Reading(view[place.value : place.value + report.byte_count], report.bit_count, report.gathered)
+        return Reading(view[place.value : place.value + report.byte_count], report.bit_count)
 
 
 def value_read(encoding, width, data):
     """Reads the number that the data say, of so many bits.
 
-    The data are as `decode` gives them: as many bytes as the width takes, the number right-aligned. The width of such data is their
-    `gathered`. Bits above the width are ignored.
+    The data are as `decode` gives them: as many bytes as the width takes, the number right-aligned. Bits above the width are ignored.
     """
     asked = [_code(encoding), _number("width", width)]
     value = ctypes.c_int64()
@@ -391,17 +370,17 @@ def value_write(encoding, width, value):
 
 
 def decode_value(field, encoding, payload, byte_pos=0, bit_pos=0):
-    """Reads the field at a byte and a bit position of the payload as a number. Its width is what `decode` gives as `gathered`.
+    """Reads the field at a byte and a bit position of the payload as a number. Its width is the bit count that `decode` gives.
 
-    What `decode` refuses with a room of 8 bytes is refused first, and so a reading of more bytes with 41. A width that the encoding does
-    not allow is refused with 58, and so is one that takes more bytes than there are: under a condensed mask bits that were gathered can
-    be lost.
+    Ones of a condensed mask that meet no bit of the field are counted too, and then the number may be another: give such a field
+    whole bytes, and its mask no more of them.
+
+    What `decode` refuses with a room of 8 bytes is refused first, and so a field of more bytes is refused with 41. A width that the
+    encoding does not allow is refused with 58.
     """
     code = _code(encoding)
     reading = decode(field, payload, byte_pos, bit_pos, _VALUE_LENGTH)
-    # under a condensed mask there may be more bytes, which are 0
-    size = min((reading.gathered + 7) // 8, len(reading.data))
-    return value_read(code, reading.gathered, reading.data[len(reading.data) - size :])
+    return value_read(code, reading.bit_count, reading.data)
 
 
 def encode_value(field, encoding, width, value, payload, used, byte_pos=0, bit_pos=0):

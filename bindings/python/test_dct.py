@@ -21,7 +21,6 @@ import unittest
 import zipfile
 from array import array
 from pathlib import Path
-from types import SimpleNamespace
 from typing import NamedTuple
 from unittest import mock
 
@@ -31,8 +30,6 @@ import dct_wheel
 BINDINGS = Path(__file__).resolve().parent.parent
 ROOT = BINDINGS.parent
 U8 = dct.Field(bytes.fromhex("02010300000000080000000000000000"), b"")
-# What each number of a report holds before a call; no count and no end of a case is such a number.
-MARK = 0x5A5A5A5A5A5A5A5A
 
 
 class Watched:
@@ -58,13 +55,7 @@ class Watched:
 
         def watched(*arguments):
             held(function.argtypes, arguments, self.WRITTEN[name])
-            reports = [argument._obj for argument in arguments if isinstance(getattr(argument, "_obj", None), dct._Report)]
-            for report in reports:
-                report.__init__(*[MARK] * len(report._fields_))
-            number = function(*arguments)
-            if any(getattr(report, field) == MARK for report in reports for field, _ in report._fields_):
-                raise AssertionError(f"{name} has not written all of its report")
-            return number
+            return function(*arguments)
 
         return watched
 
@@ -101,7 +92,6 @@ class Answer(NamedTuple):
     actual: int = 0
     bit_count: int = 0
     byte_count: int = 0
-    gathered: int = 0
     used: int = 0  # after an encode
     place: int = 0  # of a part in the payload
     value: int = 0  # the number that was read
@@ -126,10 +116,6 @@ def place_of(part, payload):
     return start - base if len(part) else 0
 
 
-def counts(reading):
-    return {"byte_count": len(reading.data), "bit_count": reading.bit_count, "gathered": reading.gathered}
-
-
 def answered(call, arguments):
     """Makes a call that has to succeed."""
     if call == "fetch":
@@ -143,7 +129,7 @@ def answered(call, arguments):
     field = dct.Field(record, store)
     if call == "decode":
         reading = dct.decode(field, *rest)
-        return Answer(data=reading.data, **counts(reading))
+        return Answer(data=reading.data, byte_count=len(reading.data), bit_count=reading.bit_count)
     if call == "decode_value":
         return Answer(value=dct.decode_value(field, *rest))
     if call in USED:
@@ -153,7 +139,8 @@ def answered(call, arguments):
         dct.clear(field, *rest)
         return Answer(data=bytes(rest[0]))
     reading = dct.read(field, *rest)
-    return Answer(place=place_of(reading.data, rest[0]), data=bytes(reading.data), **counts(reading))
+    place = place_of(reading.data, rest[0])
+    return Answer(place=place, data=bytes(reading.data), byte_count=len(reading.data), bit_count=reading.bit_count)
 
 
 # Where the payload is among the arguments, for the calls that write or lend it or have it behind an encoding, and where the used
@@ -188,14 +175,14 @@ def far(number, bits):
     return number if number < 1 << bits - 1 else number + (1 << 64) - (1 << bits)
 
 
-HEAD = struct.Struct(">8BIBHBIBH")
+HEAD = struct.Struct(">8BIBHBIB")
 
 
 def stored_answer(place, head, record, store, input, payload, after):
     """A stored answer, in the form that docs/DIFFERENTIAL.md describes."""
-    code, number, _, _, _, _, lent, left, byte_pos, bit_pos, bit_count, byte_count, expected, actual, gathered = head
+    code, number, _, _, _, _, lent, left, byte_pos, bit_pos, bit_count, byte_count, expected, actual = head
     position = [far(byte_pos, 32), far(bit_pos, 8)]
-    answer = Answer(number, far(expected, 32), actual, bit_count, byte_count, gathered, data=after)
+    answer = Answer(number, far(expected, 32), actual, bit_count, byte_count, data=after)
     changed = after + payload[len(after) :]
     if code == 1:
         return Case(place, "decode", [record, store, payload, *position, lent], answer)
@@ -245,10 +232,10 @@ TAKES = {
 }
 GIVES = {
     "fetch": ["data", "store"],
-    "decode": ["bit_count", "gathered", "data"],
+    "decode": ["bit_count", "data"],
     "encode": ["used", "data"],
     "clear": ["data"],
-    "read": ["bit_count", "gathered", "place", "data"],
+    "read": ["bit_count", "place", "data"],
     "value_read": ["value"],
     "value_write": ["data"],
     "decode_value": ["value"],
@@ -341,14 +328,6 @@ class Answers(unittest.TestCase):
 
     def test_case_encode_value(self):
         self.hold(shared, "encode_value")
-
-    def test_gathered_bits_alone(self):
-        fewer = 0
-        for case, answer in [*compared(stored, "decode"), *compared(shared, "decode")]:
-            self.assertLessEqual(answer.gathered, answer.bit_count, case.place)
-            self.assertEqual(int.from_bytes(answer.data, "big") >> answer.gathered, 0, case.place)
-            fewer += answer.gathered < answer.bit_count
-        self.assertGreater(fewer, 100)
 
     def test_every_number_arises(self):
         self.assertEqual(len(stored()), 20000)
@@ -567,13 +546,6 @@ class Numbers(unittest.TestCase):
         for number in ((1 << 32) + 10, 30 - (1 << 32)):
             self.assertIsNone(dct.Refusal(number).class_, number)
 
-    def test_report_of_the_header(self):
-        (numbers,) = re.findall(r"^struct dct_report \{\n(.*?)^\};$", (ROOT / "include/dct.h").read_text(), re.MULTILINE | re.DOTALL)
-        fields = re.findall(r"^    (\w+) (\w+);", numbers, re.MULTILINE)
-        self.assertEqual(len(fields), len(numbers.splitlines()))
-        self.assertEqual([("size_t", name) for name, _ in dct._Report._fields_], fields)
-        self.assertEqual(ctypes.sizeof(dct._Report), 8 * len(fields))
-
     def test_encodings_of_the_header(self):
         self.assertEqual([(encoding.name, encoding.value) for encoding in dct.Encoding], encodings())
 
@@ -740,7 +712,7 @@ class Arguments(unittest.TestCase):
                 with self.assertRaises(dct.Refusal) as caught:
                     call(*arguments)
                 self.assertEqual(caught.exception.number, number, call.__name__)
-            self.assertEqual(dct.read(field, empty, 9, 0), (b"", 0, 0))
+            self.assertEqual(dct.read(field, empty, 9, 0), (b"", 0))
 
     def test_one_buffer_for_all(self):
         # record, store, input and payload are the same bytes: the input's last byte is written in front of a record
@@ -841,25 +813,6 @@ class Import(unittest.TestCase):
         lacking = self.copied(lambda data: data.replace(b"dct_read", b"dct_rest"))
         version = f"it is of another version than dct.py, {dct.__version__}"
         self.says(lacking, f"dct: {lacking} has no dct_read: {version}; {self.ADVICE}")
-
-    @staticmethod
-    def reporting(numbers):
-        """A library of which each call writes so many zeros to the last thing that it is given."""
-
-        def written(*arguments):
-            ctypes.memset(arguments[-1], 0, 8 * numbers)
-
-        return SimpleNamespace(**{name: functools.partial(written) for name in Watched.WRITTEN})
-
-    def test_library_with_another_report(self):
-        version = f"it is of another version than dct.py, {dct.__version__}"
-        # the libraries of 1.x write four numbers
-        for numbers in (4, 6):
-            with mock.patch("ctypes.CDLL", return_value=self.reporting(numbers)):
-                self.says(self.BUILT, f"dct: {self.BUILT} writes another report: {version}; {self.ADVICE}")
-        library = self.reporting(5)
-        with mock.patch("ctypes.CDLL", return_value=library):
-            self.assertIs(imported(self.alone, self.BUILT)._library, library)
 
     def test_library_for_another_machine(self):
         # the order of bytes, the machine's number, and how it is told

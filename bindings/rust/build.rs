@@ -35,18 +35,6 @@ fn numbers(header: &str) -> String {
         .collect()
 }
 
-/// Of another major version the header tells that the archive beside it writes another report, past ours or not all of it.
-fn see_version(header: &str, folder: &Path) {
-    let ours = concat!("#define DCT_VERSION_MAJOR ", env!("CARGO_PKG_VERSION_MAJOR"));
-    if !header.lines().any(|line| line == ours) {
-        stop(format!(
-            "dct.h in {} is of another major version than this crate, {}: set DCT_INCLUDE_DIR and DCT_LIB_DIR to one of the same",
-            folder.display(),
-            env!("CARGO_PKG_VERSION")
-        ));
-    }
-}
-
 /// The archive is code for one machine, and a linker would only say that it finds no function.
 fn see_machine() {
     let target = |part: &str| env::var(format!("CARGO_CFG_TARGET_{part}")).unwrap_or_default();
@@ -71,8 +59,7 @@ fn main() {
     println!("cargo:rustc-link-search=native={}", archive.parent().expect("it is in a folder").display());
     println!("cargo:rustc-link-lib=static=dct");
     let header = found("DCT_INCLUDE_DIR", "../../include", "dct.h", "the repository has it in include");
-    let text = fs::read_to_string(&header).unwrap_or_else(|error| stop(error.to_string()));
-    see_version(&text, header.parent().expect("it is in a folder"));
+    let text = fs::read_to_string(header).unwrap_or_else(|error| stop(error.to_string()));
     let out = Path::new(&env::var_os("OUT_DIR").expect("cargo sets it")).join("numbers.rs");
     fs::write(out, format!("numbers! {{\n{}}}\n", numbers(&text))).unwrap_or_else(|error| stop(error.to_string()));
 }

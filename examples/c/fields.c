@@ -62,7 +62,7 @@ static void decode(const char *name, const struct field *field, const uint8_t *p
         printf("\n");
         return;
     }
-    printf("%s, %zu bits", name, report.gathered);
+    printf("%s, %zu bits", name, report.bit_count);
     show("", output, report.byte_count);
 }
 

@@ -10,7 +10,7 @@
 enum { INT32 = 1, UINT32 = 2, ASCII = 4, BYTES = 7, LOW_HIGH = 0, HIGH_LOW = 1, MASK = 2, CONDENSED = 4, MAXIMUM = 8 };
 
 /* the masks that records below speak of */
-static const uint8_t store[] = {0x3F, 0xFC, 0x0F, 0xF0, 0xFF, 0x00, 0x01, 0xFF, 0xFF};
+static const uint8_t store[] = {0x3F, 0xFC, 0x0F, 0xF0, 0xFF};
 
 /* A message of four bytes, and how many of them are used. */
 static uint8_t message[4];
@@ -85,8 +85,8 @@ static void read_as_value(const uint8_t *record)
     int64_t value = 0;
     uint32_t number = dct_decode(record, 16, store, sizeof store, message, used, 0, 0, output, sizeof output, &report);
     if (number == DCT_OK)
-        number = dct_value_read(DCT_TWOS_COMPLEMENT, report.gathered, output, report.byte_count, &value);
-    printf("\n  instead: read as a value of %u bits in two's complement:", (unsigned)report.gathered);
+        number = dct_value_read(DCT_TWOS_COMPLEMENT, report.bit_count, output, report.byte_count, &value);
+    printf("\n  instead: read as a value of %u bits in two's complement:", (unsigned)report.bit_count);
     if (number != DCT_OK)
         refused(number);
     else
@@ -119,29 +119,6 @@ static void input_is_padded_or_dropped(const char *what, uint8_t type)
     }
 }
 
-/* Reads 00 01 under a mask that is longer than the field, and then only the bits that mean something: the lowest that were gathered, as far
- * as there are bytes. */
-static void read_what_was_gathered(const char *what, const uint8_t *record)
-{
-    uint8_t output[4];
-    size_t bits;
-    uint32_t number;
-    start(0);
-    message[1] = 0x01;
-    number = dct_decode(record, 16, store, sizeof store, message, 2, 0, 0, output, sizeof output, &report);
-    printf("%s", what);
-    if (number != DCT_OK) {
-        refused(number);
-        return;
-    }
-    show(":", output, report.byte_count);
-    printf(", bit count %zu, byte count %zu, gathered %zu", report.bit_count, report.byte_count, report.gathered);
-    bits = report.gathered < 8 * report.byte_count ? report.gathered : 8 * report.byte_count;
-    printf("\n  instead: go by gathered, and so read the lowest %zu of its bits:", bits);
-    for (; bits > 0; bits--)
-        printf(" %d", output[report.byte_count - 1 - (bits - 1) / 8] >> (bits - 1) % 8 & 1);
-}
-
 int main(void)
 {
     /* MinMaxLength of 0 to 1 byte, ended by 00 */
@@ -156,8 +133,6 @@ int main(void)
     there_and_back("\nlimits are not looked at: AsciiString of at most 1 byte", short_text, "AB", 2, 0);
     there_and_back("\nnot read across a byte edge: 8 bits at bit 4", field(UINT32, HIGH_LOW, 8, 0, 0), "\xA5", 1, 4);
     there_and_back("\n  instead: 16 bits at bit 0 under the condensed mask 0F F0", field(UINT32, PICKED, 16, 2, 2), "\xA5", 1, 0);
-    read_what_was_gathered("\na bit count beside fewer bits: 16 bits of 00 01 under the condensed mask 00 01 FF FF",
-                           field(UINT32, PICKED, 16, 5, 4));
     there_and_back("\nmost significant byte first: UInt32 of 16 bits, low-high", field(UINT32, LOW_HIGH, 16, 0, 0), "\x0B\xB8", 2, 0);
     there_and_back("\nnot sign-extended: Int32 of 4 bits, -1", field(INT32, HIGH_LOW, 4, 0, 0), "\xFF", 1, 0);
     read_as_value(field(INT32, HIGH_LOW, 4, 0, 0));

@@ -50,7 +50,7 @@ static void line(const char *name, void (*cell)(uint32_t, int64_t), int64_t of)
 /* A signed field at byte 1 of a message: Int32, low-high, StandardLength, 16 bits. */
 static const uint8_t record[16] = {1, 0, 3, 0, 0, 0, 0, FIELD};
 
-/* A decode gives the bytes and how many bits were gathered, which is the width, and these the number. */
+/* A decode gives the bytes and their bit count, and these the number. */
 static uint32_t read_field(const uint8_t *message, size_t length, int64_t *value)
 {
     uint8_t bytes[8];
@@ -58,7 +58,7 @@ static uint32_t read_field(const uint8_t *message, size_t length, int64_t *value
     uint32_t number = dct_decode(record, 16, NULL, 0, message, length, 1, 0, bytes, sizeof bytes, &report);
     if (number != DCT_OK)
         return number;
-    return dct_value_read(DCT_TWOS_COMPLEMENT, report.gathered, bytes, report.byte_count, value);
+    return dct_value_read(DCT_TWOS_COMPLEMENT, report.bit_count, bytes, report.byte_count, value);
 }
 
 /* The number gives the bytes, and an encode takes them. */

@@ -9,7 +9,7 @@
 //! let field = dct::Field { record: &record, store: &[] };
 //! let mut output = [0; 8];
 //! let reading = dct::decode(field, &[0x12, 0x34], 0, 0, &mut output)?;
-//! assert_eq!(reading.gathered, 16);
+//! assert_eq!(reading.bit_count, 16);
 //! assert_eq!(output[..reading.byte_count], [0x34, 0x12]);
 //! # Ok::<(), dct::Refusal>(())
 //! ```
@@ -46,30 +46,13 @@ pub struct Field<'a> {
 }
 
 /// What [`decode`] read into the front of its output.
-///
-/// Of the bytes that were read the lowest `gathered` bits mean something, and all bits above those are 0. Where the bytes have fewer bits
-/// than that, all of them mean something, and others were gathered and lost. The bit count can be more than `gathered` under a condensed
-/// mask, whose ones it counts also where they meet no bit of the field:
-///
-/// ```
-/// // UInt32, high-low, 16 bits, under the condensed mask of 4 bytes that is the store: its second byte has the only one that meets a bit
-/// let record = [2, 7, 3, 0, 0, 0, 0, 16, 0, 0, 0, 0, 0, 0, 0, 4];
-/// let field = dct::Field { record: &record, store: &[0x00, 0x01, 0xFF, 0xFF] };
-/// let mut output = [0; 8];
-/// let reading = dct::decode(field, &[0x00, 0x01], 0, 0, &mut output)?;
-/// assert_eq!(output[..reading.byte_count], [0x01]);
-/// assert_eq!((reading.bit_count, reading.byte_count, reading.gathered), (16, 1, 1));
-/// # Ok::<(), dct::Refusal>(())
-/// ```
 #[derive(Clone, Copy, Debug, PartialEq, Eq)]
 #[non_exhaustive]
 pub struct Reading {
-    /// The bit count of the Rust that the library follows: for comparing with it, and not for any width or size.
+    /// How many bits were read. It follows from the field, and not from the byte count.
     pub bit_count: usize,
-    /// How many bytes of the output were written: to be trusted for how many bytes there are.
+    /// How many bytes of the output they take.
     pub byte_count: usize,
-    /// How many bits were gathered, at most the bit count: to be trusted for how many of the bits mean something, and for a value's width.
-    pub gathered: usize,
 }
 
 /// The part of a payload that [`read`] found.
@@ -80,8 +63,6 @@ pub struct Part<'p> {
     pub bytes: &'p [u8],
     /// How many bits it has.
     pub bit_count: usize,
-    /// How many bits were gathered: all of them.
-    pub gathered: usize,
 }
 
 /// Finds a record of a stored table by its number, from 0, and the table's store.
@@ -95,7 +76,7 @@ pub fn fetch(table: &[u8], number: usize) -> Result<Field<'_>, Refusal> {
 /// Reads the field at a byte and a bit position of the payload into the front of the output. What is behind it stays.
 ///
 /// The most significant byte comes first, also of a low-high field, and a number is right-aligned; an Int32 is not sign-extended, and
-/// [`decode_value`] gives a signed number. [`Reading`] tells which of its numbers to trust.
+/// [`decode_value`] gives a signed number.
 pub fn decode(
     field: Field<'_>,
     payload: &[u8],
@@ -104,7 +85,7 @@ pub fn decode(
     output: &mut [u8],
 ) -> Result<Reading, Refusal> {
     let report = ffi::decode(field, payload, byte_pos, bit_pos, output)?;
-    Ok(Reading { bit_count: report.bit_count, byte_count: report.byte_count, gathered: report.gathered })
+    Ok(Reading { bit_count: report.bit_count, byte_count: report.byte_count })
 }
 
 /// Writes the input as the field at a byte and a bit position of the payload, of which `used` bytes are used, and on success
@@ -133,6 +114,5 @@ pub fn clear(field: Field<'_>, payload: &mut [u8], used: usize, byte_pos: usize,
 /// Finds so many bytes at a byte position of the payload, for a field whose length was read before.
 pub fn read<'p>(field: Field<'_>, payload: &'p [u8], byte_pos: usize, byte_count: usize) -> Result<Part<'p>, Refusal> {
     let (place, report) = ffi::read(field, payload, byte_pos, byte_count)?;
-    let bytes = &payload[place..place + report.byte_count];
-    Ok(Part { bytes, bit_count: report.bit_count, gathered: report.gathered })
+    Ok(Part { bytes: &payload[place..place + report.byte_count], bit_count: report.bit_count })
 }

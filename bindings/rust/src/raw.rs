@@ -9,7 +9,6 @@ pub struct Report {
     pub byte_count: usize,
     pub expected: usize,
     pub actual: usize,
-    pub gathered: usize,
 }
 
 extern "C" {

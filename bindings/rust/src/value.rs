@@ -34,8 +34,8 @@ impl TryFrom<u32> for Encoding {
 /// The most bytes that a value has.
 const LONGEST: usize = 8;
 
-/// Reads the number that bytes say, as [`decode`] gives them: as many as the width takes, the number right-aligned in them. The width
-/// of such bytes is the reading's `gathered`. Bits above the width are ignored.
+/// Reads the number that bytes say, as [`decode`] gives them: as many as the width takes, the number right-aligned in them. Bits above
+/// the width are ignored.
 ///
 /// ```
 /// assert_eq!(dct::value_read(dct::Encoding::SignMagnitude, 12, &[0x08, 0x02])?, -2);
@@ -58,11 +58,13 @@ pub fn value_write(encoding: Encoding, width: usize, value: i64, bytes: &mut [u8
     ffi::value_write(encoding, width, value, bytes)
 }
 
-/// Reads the field at a byte and a bit position of the payload as a number. Its width is what [`decode`] gives as `gathered`.
+/// Reads the field at a byte and a bit position of the payload as a number. Its width is the bit count that [`decode`] gives.
 ///
-/// What `decode` into 8 bytes refuses is refused first, and so a reading of more bytes with 41. A width that the encoding does not
-/// allow is refused with 58, and so is one that takes more bytes than there are: under a condensed mask bits that were gathered can
-/// be lost.
+/// Ones of a condensed mask that meet no bit of the field are counted too, and then the number may be another: give such a field
+/// whole bytes, and its mask no more of them.
+///
+/// What `decode` into 8 bytes refuses is refused first, and so a field of more bytes is refused with 41. A width that the encoding does
+/// not allow is refused with 58.
 ///
 /// ```
 /// // Int32, high-low, 12 bits
@@ -81,9 +83,7 @@ pub fn decode_value(
 ) -> Result<i64, Refusal> {
     let mut output = [0; LONGEST];
     let reading = decode(field, payload, byte_pos, bit_pos, &mut output)?;
-    // under a condensed mask there may be more bytes, which are 0
-    let size = reading.gathered.div_ceil(8).min(reading.byte_count);
-    value_read(encoding, reading.gathered, &output[reading.byte_count - size..reading.byte_count])
+    value_read(encoding, reading.bit_count, &output[..reading.byte_count])
 }
 
 /// Writes a number of so many bits as the field at a byte and a bit position of the payload, of which `used` bytes are used, and on

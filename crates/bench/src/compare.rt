@@ -1,27 +1,18 @@
-// What a call answers, beside what it should: number, bit count, byte count, expected, actual and gathered, every byte, and the used length.
+// What a call answers, beside what it should: number, bit count, byte count, expected and actual, every byte, and the used length.
 
-// What no case reports, so that a number left unwritten shows.
-const UNWRITTEN: usize = 77;
-
-// All of the bits were gathered.
-pub fn gave(bit_count: usize, byte_count: usize) -> [usize; 6] {
-    [0, bit_count, byte_count, 0, 0, bit_count]
+pub fn gave(bit_count: usize, byte_count: usize) -> [usize; 5] {
+    [0, bit_count, byte_count, 0, 0]
 }
 
-// Fewer were gathered than are counted.
-pub fn gave_only(gathered: usize, bit_count: usize, byte_count: usize) -> [usize; 6] {
-    [0, bit_count, byte_count, 0, 0, gathered]
+pub fn refused(number: usize) -> [usize; 5] {
+    [number, 0, 0, 0, 0]
 }
 
-pub fn refused(number: usize) -> [usize; 6] {
-    [number, 0, 0, 0, 0, 0]
+pub fn short(expected: usize, actual: usize) -> [usize; 5] {
+    [30, 0, 0, expected, actual]
 }
 
-pub fn short(expected: usize, actual: usize) -> [usize; 6] {
-    [30, 0, 0, expected, actual, 0]
-}
-
-fn same_numbers(number: u32, report: [usize; 5], want: [usize; 6]) -> bool {
+fn same_numbers(number: u32, report: [usize; 4], want: [usize; 5]) -> bool {
     if number as usize != want[0] {
         return false;
     }
@@ -34,10 +25,7 @@ fn same_numbers(number: u32, report: [usize; 5], want: [usize; 6]) -> bool {
     if report[2] != want[3] {
         return false;
     }
-    if report[3] != want[4] {
-        return false;
-    }
-    report[4] == want[5]
+    report[3] == want[4]
 }
 
 // Whether a decode into an output of four bytes EE reports what it should and leaves the output so.
@@ -47,11 +35,11 @@ pub fn reads(
     payload: &[u8],
     byte_pos: usize,
     bit_pos: usize,
-    want: [usize; 6],
+    want: [usize; 5],
     after: &[u8],
 ) -> bool {
     let mut output: [u8; 4] = [0xEE; 4];
-    let mut report: [usize; 5] = [UNWRITTEN; 5];
+    let mut report: [usize; 4] = [1; 4];
     let number = dct::dct_decode(
         record,
         store,
@@ -72,11 +60,11 @@ pub fn lends(
     record: &[u8],
     payload: &[u8],
     byte_count: usize,
-    want: [usize; 6],
+    want: [usize; 5],
     part: &[u8],
 ) -> bool {
     let mut place = 1;
-    let mut report: [usize; 5] = [UNWRITTEN; 5];
+    let mut report: [usize; 4] = [1; 4];
     let number = dct::dct_read(record, b"", payload, 0, byte_count, &mut place, &mut report);
     if !same_numbers(number, report, want) {
         return false;
@@ -105,7 +93,7 @@ pub fn writes(
     after: &[u8],
 ) -> bool {
     let mut end = used;
-    let mut report: [usize; 5] = [UNWRITTEN; 5];
+    let mut report: [usize; 4] = [1; 4];
     let given = dct::dct_encode(
         record,
         store,
@@ -135,7 +123,7 @@ pub fn clears(
     after: &[u8],
 ) -> bool {
     let used = payload.len();
-    let mut report: [usize; 5] = [UNWRITTEN; 5];
+    let mut report: [usize; 4] = [1; 4];
     let given = dct::dct_clear(record, store, payload, used, 0, bit_pos, &mut report);
     if same_numbers(given, report, refused(number)) {
         return check::same(payload, after);

@@ -1,5 +1,5 @@
 // The cases that read, each with all of its parts that do.
-use super::compare::{gave, gave_only, lends, reads, refused, short};
+use super::compare::{gave, lends, reads, refused, short};
 use super::records;
 
 pub fn case_a() -> bool {
@@ -93,7 +93,7 @@ pub fn case_j() -> bool {
         b"\x0F",
         0,
         0,
-        gave_only(0, 4, 1),
+        gave(4, 1),
         b"\x00\xEE\xEE\xEE",
     )
 }
@@ -108,7 +108,7 @@ pub fn case_k() -> bool {
         payload,
         0,
         0,
-        gave_only(1, 16, 1),
+        gave(16, 1),
         b"\x01\xEE\xEE\xEE",
     )
 }
@@ -154,7 +154,7 @@ pub fn case_m() -> bool {
 }
 
 // Text that starts past the payload.
-fn reads_past(min: u8, termination: u8, want: [usize; 6]) -> bool {
+fn reads_past(min: u8, termination: u8, want: [usize; 5]) -> bool {
     let record = records::ascii(min, termination);
     reads(&record, b"", b"\x00\x00", 5, 0, want, b"\xEE\xEE\xEE\xEE")
 }
@@ -186,7 +186,7 @@ pub fn case_n() -> bool {
 }
 
 // Three bytes of text of two bytes to a character.
-fn reads_torn(termination: u8, want: [usize; 6], after: &[u8]) -> bool {
+fn reads_torn(termination: u8, want: [usize; 5], after: &[u8]) -> bool {
     let record = records::unicode(termination);
     reads(&record, b"", b"\x41\x00\x42", 0, 0, want, after)
 }

@@ -12,7 +12,7 @@ use kinds::{ByteCount, Check};
 use record::Recorded;
 
 // Hands back so many bytes of the payload as a part of it, unordered, and beside it the number and the report: bit count, byte
-// count, expected, actual and gathered. The part is empty on a refusal.
+// count, expected and actual. The part is empty on a refusal.
 pub fn decode_with_runtime_byte_length<'a>(
     coded_type: DiagCodedType,
     store: &[u8],
@@ -20,7 +20,7 @@ pub fn decode_with_runtime_byte_length<'a>(
     byte_pos: usize,
     byte_count: ByteCount,
     number: &mut u32,
-    report: &mut [usize; 5],
+    report: &mut [usize; 4],
 ) -> &'a [u8]
     ensures result_after { answer (number.new ∷ report.new) result.now ≡ runtime_read (by_type coded_type) store.now uds_payload.now byte_pos byte_count.0 }
     ensures ref_ptr_value { result.ref_ptr ≡ place_behind (part_start (length result.now) byte_pos) uds_payload.entry.ref_ptr }
@@ -49,7 +49,7 @@ pub fn decode_with_runtime_byte_length_by_record<'a>(
     byte_pos: usize,
     byte_count: ByteCount,
     number: &mut u32,
-    report: &mut [usize; 5],
+    report: &mut [usize; 4],
 ) -> &'a [u8]
     ensures result_after { answer (number.new ∷ report.new) result.now ≡ runtime_read (by_record «record».now) store.now uds_payload.now byte_pos byte_count.0 }
     ensures ref_ptr_value { result.ref_ptr ≡ place_behind (part_start (length result.now) byte_pos) uds_payload.entry.ref_ptr }

@@ -1,10 +1,10 @@
 // Bits gathered through a condensed mask, and bits put to the ones of one.
 ghost use Rattle.std.specs.Prelude.{◌≡◌, false, cond, ◌+◌, ◌*◌, ◌^◌, ◌<◌, ◌≤◌, length, eqb};
+ghost use Rattle.kinds.specs.Types.{bytes_for};
 ghost use Rattle.order.specs.Order.{ordered};
 ghost use Rattle.bits.specs.Bits.{bit_at, packed, or_bit};
 ghost use Rattle.bits.specs.Moves.{from, injected};
-ghost use Rattle.condensed.specs.Condensed.{front_bit, picked, bits_of, ones_of, condensed_count, condensed_bytes, replacement, replaced};
-ghost use Rattle.condensed.specs.Gathered.{ones_met};
+ghost use Rattle.condensed.specs.Condensed.{front_bit, ones_below, picked, bits_of, ones_of, condensed_count, condensed_bytes, replacement, replaced};
 
 use kinds::{BitLength, ByteCount, ByteOrder};
 
@@ -36,7 +36,7 @@ fn front_bit_at(mask: &[u8], field_bytes: ByteCount, i: usize) -> u8
 
 // How many ones of the mask a field of so many bits meets.
 fn count_met_ones(bit_mask: &[u8], bit_len: BitLength) -> BitLength
-    ensures { result.0 ≡ ones_met bit_mask.now bit_len.0 }
+    ensures { result.0 ≡ ones_below (front_bit bit_mask.now (bytes_for bit_len.0)) bit_len.0 }
 {
     let field_bytes = bit_len.byte_count();
     let mut count: u32 = 0;
@@ -103,7 +103,7 @@ pub fn gather_bits(
 ) -> BitLength
     requires data_len_bound { length «data».now ≤ 65535 }
     requires bit_len_bound { bit_pos + bit_len.0 ≤ 8 * length «data».now }
-    ensures result_value { result.0 ≡ ones_met bit_mask.now bit_len.0 }
+    ensures result_value { result.0 ≡ length (picked bit_mask.now bit_len.0 (from bit_pos (bit_at (ordered byte_order «data».now)))) }
     ensures result_bytes_after { result_bytes.new ≡ packed (length result_bytes.old) (bits_of (picked bit_mask.now bit_len.0 (from bit_pos (bit_at (ordered byte_order «data».now))))) }
 {
     bits::zero(result_bytes);

@@ -21,7 +21,7 @@ pub extern "C" fn dct_decode(
     byte_pos: usize,
     bit_pos: usize,
     output: &mut [u8],
-    report: &mut [usize; 5],
+    report: &mut [usize; 4],
 ) -> u32
     ensures { answer (result ∷ report.new) output.new ≡ decoded (by_record «record».now) store.now payload.now byte_pos bit_pos output.old }
 {
@@ -39,7 +39,7 @@ pub extern "C" fn dct_encode(
     used: &mut usize,
     byte_pos: usize,
     bit_pos: usize,
-    report: &mut [usize; 5],
+    report: &mut [usize; 4],
 ) -> u32
     ensures { answer (result ∷ report.new) (payload_of payload.new used.new) ≡ encoded (by_record «record».now) store.now input.now (payload_of payload.old used.old) byte_pos bit_pos }
 {
@@ -56,7 +56,7 @@ pub extern "C" fn dct_clear(
     used: usize,
     byte_pos: usize,
     bit_pos: usize,
-    report: &mut [usize; 5],
+    report: &mut [usize; 4],
 ) -> u32
     ensures { answer (result ∷ report.new) (payload_of payload.new used) ≡ cleared_field (by_record «record».now) store.now (payload_of payload.old used) byte_pos bit_pos }
 {
@@ -83,7 +83,7 @@ pub extern "C" fn dct_read(
     byte_pos: usize,
     byte_count: usize,
     place: &mut usize,
-    report: &mut [usize; 5],
+    report: &mut [usize; 4],
 ) -> u32
     ensures { answer (result ∷ report.new) place.new ≡ start_answer byte_pos (runtime_read (by_record «record».now) store.now payload.now byte_pos byte_count) }
 {

@@ -20,7 +20,6 @@ use Rattle.kinds.specs.Answers.{numbered, short, wrote, read}
 use Rattle.kinds.specs.Outcomes.{rule, first_among, Outcome, gives, lacks, refuses, after, unless_short, answer}
 use Rattle.kinds.specs.Refusals.{bit_position_refusal}
 use Rattle.kinds.proofs.Compare.{below, same}
-use Rattle.kinds.proofs.Holding.{Holds, holds_after, holds_short, holds_any}
 use Rattle.coded.specs.declared.variants.Place.{Place}
 use Rattle.coded.specs.declared.variants.OptionalPlace.{OptionalPlace}
 use Rattle.coded.specs.declared.variants.OptionalPlace.TheVariants as place
@@ -32,7 +31,7 @@ use Rattle.masks.specs.Mask.{Mask}
 use Rattle.field.specs.declared.Shape.{Shape}
 use Rattle.field.specs.declared.Shape.TheVariants as shape
 use Rattle.field.specs.Field.{field_of, outside, part_at}
-use Rattle.field.specs.Refusals.{slices_refusal}
+use Rattle.field.specs.Refusals.{slices_refusal, description_refusal}
 use Rattle.record.specs.Numbers.{record_size}
 use Rattle.record.specs.Parsing.{coded_in}
 use Rattle.storing.specs.Storing.{numbers_for, bytes_of, storing_refusal, stored_record}
@@ -48,24 +47,28 @@ use Rattle.lengths.specs.Refusals.{standard_refusal, count_refusal, empty_refusa
 use Rattle.writers.specs.Shapes.{with_terminator, shape_encoded, field_encoding}
 use Rattle.clear.specs.Clear.{shape_cleared, field_clearing}
 use Rattle.parts.specs.Part.{runtime_part, part_answer, part_start}
-use Rattle.calls.specs.Calls.{Description, by_type, by_record, called, decoded, encoded, cleared_field, runtime_read, key_name}
-use Rattle.calls.proofs.Ways.{holds_called}
+use Rattle.calls.specs.Calls.{Description, by_type, by_record, coded_by, called, decoded, encoded, cleared_field, runtime_read, key_name}
 use Rattle.dct.specs.Boundary.{start_answer, places_of, places_fetched}
 use Rattle.demand_one.specs.Refusing.{Ends, Decodes, Reads, Encodes, Clears, Fetches, HandsBack, Names, Stores, ByDescription, Demand1}
 use Rattle.demand_one.proofs.Sizes.{size_written, size_cleared}
-use Rattle.demand_one.proofs.Ending.{refuses_row, refuses_30, ends}
+use Rattle.demand_one.proofs.Ending.{refuses_row, refuses_30, Holds, holds_after, holds_short, holds_following, ends, holds_any}
 use Rattle.demand_one.proofs.Made.{makes, makes_after, said_makes, fetch_makes}
 use Rattle.demand_one.proofs.Values.{value_read_ends, value_written_ends, value_read_by_code_ends, value_written_by_code_ends}
+
+-- what every call refuses first
+holds_called : {A : Type 0} (P : A → Type 0) (d : Description) (store : List ℕ) (a b used : ℕ) (own : DiagCodedType → Outcome A)
+    → ((t : DiagCodedType) → Holds P (own t)) → Holds P (called d store a b used own)
+holds_called P d store a b used own h =
+    holds_following P (coded_by d (length store) a b used) _ (λ t. holds_after P (description_refusal t (length store)) (own t) (h t))
 
 -- ---- readings
 
 -- the bytes are in front of an output that has room for them
-gives_bytes : (bits gathered : ℕ) (bytes output : List ℕ) → length bytes ≤ length output → Decodes output (answer (read bits (length bytes) gathered) (bytes ++ drop (length bytes) output))
-gives_bytes bits gathered bytes output h =
+gives_bytes : (bits : ℕ) (bytes output : List ℕ) → length bytes ≤ length output → Decodes output (answer (read bits (length bytes)) (bytes ++ drop (length bytes) output))
+gives_bytes bits bytes output h =
     record {
       bits = bits;
       bytes = length bytes;
-      gathered = gathered;
       reports = refl;
       fits = h;
       size = simp (length-append, length-drop) (omega arith);
@@ -79,7 +82,7 @@ reading_ends output (refuses r) = inr (refuses_row output r)
 reading_ends output (gives f) =
     let n = length f.bytes in
     ⊎_elim (λ (l : length output < n). rw (lacks_room f output n refl l) (inr (refuses_row output OutputLacksRoom)))
-    (λ (l : n ≤ length output). rw (has_room f output n refl l) (inl (gives_bytes f.bits f.gathered_count f.bytes output l))) (below (length output) n)
+    (λ (l : n ≤ length output). rw (has_room f output n refl l) (inl (gives_bytes f.bits f.bytes output l))) (below (length output) n)
 
 -- a part that is not empty starts where it is asked for, and an empty one at 0
 part_inside : (payload : List ℕ) (at count : ℕ) → part_start (length (cut at count payload)) at + length (cut at count payload) ≤ length payload
@@ -189,7 +192,7 @@ module _ (d : Description) (store : List ℕ) where
       let own : DiagCodedType → Outcome (List ℕ) = λ t. runtime_part payload at count in
       let P : List ℕ → Type 0 = λ part. part ≡ cut at count payload in
       let end = saturating_sum at count in
-      ends P (HandsBack payload at count) [] (λ part. answer (read (8 * length part) (length part) (8 * length part)) part) (λ part h. record { reports = refl; part = h })
+      ends P (HandsBack payload at count) [] (λ part. answer (read (8 * length part) (length part)) part) (λ part h. record { reports = refl; part = h })
       (called d store (length payload) 0 0 own)
       (holds_called P d store (length payload) 0 0 own
       (λ t. holds_short P (not (eqb count 0) && ltb (length payload) end) end (length payload) (gives (cut at count payload)) refl))

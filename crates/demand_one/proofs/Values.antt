@@ -11,7 +11,6 @@ use Rattle.kinds.specs.declared.refusals.Refusal.TheVariants.{SliceTooLong, Widt
 use Rattle.kinds.specs.declared.refusals.Check.TheVariants.{Refused}
 use Rattle.kinds.specs.Answers.{wrote, report_of_check}
 use Rattle.kinds.specs.Outcomes.{gives, after, Answer, answer}
-use Rattle.kinds.proofs.Holding.{holds_after}
 use Rattle.bits.specs.Bits.{bit, bit_at, number, packed}
 use Rattle.bits.proofs.Bytes.{length-packed}
 use Rattle.encodings.specs.declared.forms.Encoding.{Encoding}
@@ -23,7 +22,7 @@ use Rattle.encodings.specs.Writing.{pattern_of}
 use Rattle.encodings.specs.Refusals.{range_refusal, digit_refusal}
 use Rattle.values.specs.Values.{size_refusal, value_read, value_written, by_encoding, value_read_by_code, value_written_by_code}
 use Rattle.demand_one.specs.Refusing.{Refuses, Ends, ReadsValue, WritesValue, ReadsByCode, WritesByCode}
-use Rattle.demand_one.proofs.Ending.{refuses_row, ends}
+use Rattle.demand_one.proofs.Ending.{refuses_row, holds_after, ends}
 
 pub value_read_ends : (e : Encoding) (width : ℕ) (xs : List ℕ) (old : ℤ) → Ends (ReadsValue e width xs) old (value_read e width xs old)
 unfolding value_read

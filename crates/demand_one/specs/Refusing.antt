@@ -33,15 +33,15 @@ pub data Tabled : ℕ → Type 0 where
   row : (r : Refusal) → Tabled (number_of r)
   thirty : Tabled 30
 
--- a refusal: its number and counts of 0, what was gathered among them; 30 alone says what was expected and what there is; and what is left
--- is `old`: what came, or the zeros or the empty part that a refusal leaves
+-- a refusal: its number and counts of 0; 30 alone says what was expected and what there is; and what is left is `old`: what came, or the
+-- zeros or the empty part that a refusal leaves
 pub record Refuses {A : Type 0} (old : A) (s : Answer A) : Type 0 where
   pub number : ℕ
   pub tabled : Tabled number
   pub not_0 : number ≡ 0 → ⊥
   pub expected : ℕ
   pub actual : ℕ
-  pub reports : s.report ≡ number ∷ 0 ∷ 0 ∷ expected ∷ actual ∷ 0 ∷ []
+  pub reports : s.report ≡ number ∷ 0 ∷ 0 ∷ expected ∷ actual ∷ []
   pub alone : (number ≡ 30 → ⊥) → (expected ≡ 0) × (actual ≡ 0)
   pub keeps : s.left ≡ old
 
@@ -53,8 +53,7 @@ Ends Good old s = Good s ⊎ Refuses old s
 pub record Decodes (output : List ℕ) (s : Answer (List ℕ)) : Type 0 where
   pub bits : ℕ
   pub bytes : ℕ
-  pub gathered : ℕ
-  pub reports : s.report ≡ read bits bytes gathered
+  pub reports : s.report ≡ read bits bytes
   pub fits : bytes ≤ length output
   pub size : length s.left ≡ length output
   pub past : drop bytes s.left ≡ drop bytes output
@@ -63,7 +62,7 @@ pub record Decodes (output : List ℕ) (s : Answer (List ℕ)) : Type 0 where
 pub record Reads (payload : List ℕ) (s : Answer ℕ) : Type 0 where
   pub bits : ℕ
   pub bytes : ℕ
-  pub reports : s.report ≡ read bits bytes bits
+  pub reports : s.report ≡ read bits bytes
   pub inside : s.left + bytes ≤ length payload
 
 -- an encode: counts of 0, and the payload keeps its size
@@ -85,7 +84,7 @@ pub record Fetches (s : Answer (List ℕ)) : Type 0 where
 
 -- a read that hands back the part itself
 pub record HandsBack (payload : List ℕ) (at count : ℕ) (s : Answer (List ℕ)) : Type 0 where
-  pub reports : s.report ≡ read (8 * length s.left) (length s.left) (8 * length s.left)
+  pub reports : s.report ≡ read (8 * length s.left) (length s.left)
   pub part : s.left ≡ cut at count payload
 
 -- a key name: some part of the store, which may be empty; the contract says which

@@ -143,7 +143,7 @@ module _ (x : Located (List ℕ)) (n bits : ℕ) (v : List ℕ) (rest output : L
   abbrev Back : Type 0
   Back =
       (record_way []).read_back x (message (changed (record_way []) n [] [] [] x [] v (with (record_way []) x [] ∷ []) (with (record_way []) x v ∷ [])) ++ rest) output
-      ≡ answer (read bits n bits) (v ++ drop n output)
+      ≡ answer (read bits n) (v ++ drop n output)
 
 one_byte : (b : ℕ) → b < 256 → (j : ℕ) → get_or (b ∷ []) j 0 < 256
 one_byte b l zero = l

@@ -109,5 +109,5 @@ module _ (n : ℕ) (f : Placed) (t : Taken n f) (whole : whole_or_short f.len �
         (ap (λ (m : Mask). gives (unpacked_found m f.len f.pos zs)) no_mask_lem ∙ ap (λ (b : List ℕ). gives (found f.len b)) value_back)
 
     pub reads_back : (output : List ℕ) → bytes_for f.len ≤ length output
-        → field_way.read_back f (ys ++ rest) output ≡ answer (read f.len (bytes_for f.len) f.len) (v ++ drop (bytes_for f.len) output)
+        → field_way.read_back f (ys ++ rest) output ≡ answer (read f.len (bytes_for f.len)) (v ++ drop (bytes_for f.len) output)
     reads_back output room = ap (read_answer output) finds ∙ has_room (found f.len v) output (bytes_for f.len) exact.fills room

@@ -264,7 +264,7 @@ module _ (w : Way) where
       pub d : whole_or_short (w.says x).len ≡ true → inside_bytes (w.says x) ≡ true → unmasked (w.says x).mask ≡ true → Exact (w.says x).len v'
           → (rest : List ℕ) → n + length rest ≤ 65535
           → (output : List ℕ) → bytes_for (w.says x).len ≤ length output → w.lends (length output) ≡ true
-          → w.read_back x (message changed ++ rest) output ≡ answer (read (w.says x).len (bytes_for (w.says x).len) (w.says x).len) (v' ++ drop (bytes_for (w.says x).len) output)
+          → w.read_back x (message changed ++ rest) output ≡ answer (read (w.says x).len (bytes_for (w.says x).len)) (v' ++ drop (bytes_for (w.says x).len) output)
 
   abbrev pub Demand3Of : Type 0
   Demand3Of =

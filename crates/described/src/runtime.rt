@@ -15,7 +15,7 @@ pub fn part_described<'a>(
     byte_pos: usize,
     byte_count: ByteCount,
     number: &mut u32,
-    report: &mut [usize; 5],
+    report: &mut [usize; 4],
 ) -> &'a [u8]
     requires { length uds_payload.now ≤ 65535 }
     ensures result_after { answer (number.new ∷ report.new) result.now ≡ part_answer (described coded_type store.now (λ t. runtime_part uds_payload.now byte_pos byte_count.0)) }

@@ -42,10 +42,10 @@ number_of WidthNotAllowed = 58
 number_of ValueOutOfRange = 59
 number_of DigitAboveNine = 60
 
--- A report is six numbers in a row: number, bit count, byte count, expected, actual, gathered. Here the number is alone: that of a
--- refusal, or 0, with which encode and clear report their success
+-- A report is five numbers in a row: number, bit count, byte count, expected, actual. Here the number is alone: that of a refusal, or 0,
+-- with which encode and clear report their success
 abbrev pub numbered : ℕ → List ℕ
-numbered n = n ∷ 0 ∷ 0 ∷ 0 ∷ 0 ∷ 0 ∷ []
+numbered n = n ∷ 0 ∷ 0 ∷ 0 ∷ 0 ∷ []
 
 -- the number of a report
 abbrev pub number_in : List ℕ → ℕ
@@ -57,11 +57,11 @@ refused r = numbered (number_of r)
 
 -- 30 alone says what was expected and what there is
 abbrev pub short : ℕ → ℕ → List ℕ
-short e a = 30 ∷ 0 ∷ 0 ∷ e ∷ a ∷ 0 ∷ []
+short e a = 30 ∷ 0 ∷ 0 ∷ e ∷ a ∷ []
 
--- a successful reading: how many bits it counts, how many bytes it gives, and how many bits it gathered
-abbrev pub read : ℕ → ℕ → ℕ → List ℕ
-read bits bytes gathered = 0 ∷ bits ∷ bytes ∷ 0 ∷ 0 ∷ gathered ∷ []
+-- a successful reading: how many bits and bytes it gives
+abbrev pub read : ℕ → ℕ → List ℕ
+read bits bytes = 0 ∷ bits ∷ bytes ∷ 0 ∷ 0 ∷ []
 
 -- a success that reads nothing
 abbrev pub wrote : List ℕ
@@ -72,7 +72,7 @@ report_of_check check.Passed = wrote
 report_of_check (check.Refused r) = refused r
 
 abbrev pub report_of_reading : Reading → List ℕ
-report_of_reading (reading.Read bits bytes gathered) = read bits.0 bytes.0 gathered.0
+report_of_reading (reading.Read bits bytes) = read bits.0 bytes.0
 report_of_reading (reading.NotEnoughData e a) = short e a
 report_of_reading (reading.Refused r) = refused r
 

@@ -55,7 +55,6 @@ pub enum Reading {
     Read {
         bit_count: BitLength,
         byte_count: ByteCount,
-        gathered: BitLength,
     },
     NotEnoughData {
         expected: usize,
@@ -126,25 +125,24 @@ impl Refusal {
 }
 
 impl Reading {
-    // Answers the number, and leaves the rest of the report: bit count, byte count, expected, actual and gathered.
-    pub fn report(self, report: &mut [usize; 5]) -> u32
+    // Answers the number, and leaves the rest of the report: bit count, byte count, expected and actual.
+    pub fn report(self, report: &mut [usize; 4]) -> u32
         ensures { result ∷ report.new ≡ report_of_reading self }
     {
         match self {
             Reading::Read {
                 bit_count,
                 byte_count,
-                gathered,
             } => {
-                *report = [bit_count.bits(), byte_count.bytes(), 0, 0, gathered.bits()];
+                *report = [bit_count.bits(), byte_count.bytes(), 0, 0];
                 0
             }
             Reading::NotEnoughData { expected, actual } => {
-                *report = [0, 0, expected, actual, 0];
+                *report = [0, 0, expected, actual];
                 NOT_ENOUGH_DATA
             }
             Reading::Refused(refusal) => {
-                *report = [0, 0, 0, 0, 0];
+                *report = [0, 0, 0, 0];
                 refusal.number()
             }
         }
@@ -153,20 +151,20 @@ impl Reading {
 
 impl Writing {
     // The same of a writing.
-    pub fn report(self, report: &mut [usize; 5]) -> u32
+    pub fn report(self, report: &mut [usize; 4]) -> u32
         ensures { result ∷ report.new ≡ report_of_writing self }
     {
         match self {
             Writing::Written => {
-                *report = [0, 0, 0, 0, 0];
+                *report = [0, 0, 0, 0];
                 0
             }
             Writing::NotEnoughData { expected, actual } => {
-                *report = [0, 0, expected, actual, 0];
+                *report = [0, 0, expected, actual];
                 NOT_ENOUGH_DATA
             }
             Writing::Refused(refusal) => {
-                *report = [0, 0, 0, 0, 0];
+                *report = [0, 0, 0, 0];
                 refusal.number()
             }
         }

@@ -97,11 +97,11 @@ check_told (check.Refused r) = rw (never_0 r) (ap check.Refused (refusal_told r)
 
 abbrev reading_of : List ℕ → Reading
 reading_of r =
-    cond (eqb (number_in r) 0) (reading.Read (record { 0 = get_or r 1 0 }) (record { 0 = get_or r 2 0 }) (record { 0 = get_or r 5 0 }))
+    cond (eqb (number_in r) 0) (reading.Read (record { 0 = get_or r 1 0 }) (record { 0 = get_or r 2 0 }))
     (cond (eqb (number_in r) 30) (reading.NotEnoughData (get_or r 3 0) (get_or r 4 0)) (reading.Refused (refusal_of (number_in r))))
 
 reading_told : (r : Reading) → reading_of (report_of_reading r) ≡ r
-reading_told (reading.Read bits bytes gathered) = refl
+reading_told (reading.Read bits bytes) = refl
 reading_told (reading.NotEnoughData e a) = refl
 reading_told (reading.Refused r) = rw (never_0 r, never_30 r) (ap reading.Refused (refusal_told r))
 

@@ -18,9 +18,9 @@ module _ (payload : List ℕ) (at count : ℕ) where
     pub part_short : {end : ℕ} → end ≡ saturating_sum at count → length payload < end → answer (short end (length payload)) [] ≡ part_answer (runtime_part payload at count)
     part_short e s = rw (ne_eqb count 0 some, e, lt-ltb (length payload) (saturating_sum at count) (rw e at s))
 
-    -- so many bits and bytes are reported, all of the bits gathered, and a part of so many bytes is handed back
+    -- so many bits and bytes are reported, and a part of so many bytes is handed back
     pub part_there : length payload ≤ 65535 → saturating_sum at count ≤ length payload → {bits shown k : ℕ} → bits ≡ 8 * count → shown ≡ count → k ≡ count
-        → answer (read bits shown bits) (cut at k payload) ≡ part_answer (runtime_part payload at count)
+        → answer (read bits shown) (cut at k payload) ≡ part_answer (runtime_part payload at count)
     part_there few s eb es ek = rw (ne_eqb count 0 some, le-ltb (length payload) (saturating_sum at count) s, length_cut payload few at count s, eb, es, ek)
 
     -- and it starts where it is asked for

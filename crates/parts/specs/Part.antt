@@ -10,9 +10,9 @@ runtime_part payload at count =
     unless_short (not (eqb count 0) && ltb (length payload) (saturating_sum at count)) (saturating_sum at count) (length payload)
     (gives (cut at count payload))
 
--- a part that is read and handed back, with all of its bits; a refusal hands back the empty part
+-- a part that is read and handed back; a refusal hands back the empty part
 abbrev pub part_answer : Outcome (List ℕ) → Answer (List ℕ)
-part_answer = concluded [] (λ part. answer (read (8 * length part) (length part) (8 * length part)) part)
+part_answer = concluded [] (λ part. answer (read (8 * length part) (length part)) part)
 
 -- where a part of so many bytes starts, and 0 where it is empty
 abbrev pub part_start : ℕ → ℕ → ℕ

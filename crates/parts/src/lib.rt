@@ -12,13 +12,13 @@ pub fn no_part<'a>(
     refusal: Refusal,
     lent: &'a [u8],
     number: &mut u32,
-    report: &mut [usize; 5],
+    report: &mut [usize; 4],
 ) -> &'a [u8]
     ensures result_after { answer (number.new ∷ report.new) result.now ≡ answer (refused refusal) [] }
     ensures ref_ptr_value { result.ref_ptr ≡ place_behind 0 lent.entry.ref_ptr }
 {
     *number = refusal.number();
-    *report = [0, 0, 0, 0, 0];
+    *report = [0, 0, 0, 0];
     &lent[..0]
 }
 
@@ -28,7 +28,7 @@ pub fn part<'a>(
     byte_pos: usize,
     byte_count: ByteCount,
     number: &mut u32,
-    report: &mut [usize; 5],
+    report: &mut [usize; 4],
 ) -> &'a [u8]
     requires { length uds_payload.now ≤ 65535 }
     ensures result_after { answer (number.new ∷ report.new) result.now ≡ part_answer (runtime_part uds_payload.now byte_pos byte_count.0) }
@@ -37,17 +37,16 @@ pub fn part<'a>(
     let count = byte_count.bytes();
     if count == 0 {
         *number = 0;
-        *report = [0, 0, 0, 0, 0];
+        *report = [0, 0, 0, 0];
         return &uds_payload[..0];
     }
     let end_pos = kinds::saturating_add(byte_pos, count);
     if uds_payload.len() < end_pos {
         *number = kinds::NOT_ENOUGH_DATA;
-        *report = [0, 0, end_pos, uds_payload.len(), 0];
+        *report = [0, 0, end_pos, uds_payload.len()];
         return &uds_payload[..0];
     }
     *number = 0;
-    let bit_count = byte_count.bit_length().bits();
-    *report = [bit_count, count, 0, 0, bit_count];
+    *report = [byte_count.bit_length().bits(), count, 0, 0];
     &uds_payload[byte_pos..end_pos]
 }

@@ -32,7 +32,6 @@ fn unpack_at(
         return Reading::Read {
             bit_count: BitLength(0),
             byte_count: ByteCount(0),
-            gathered: BitLength(0),
         };
     }
     let end_pos = kinds::saturating_add(start_pos, bit_len.byte_count().bytes());

@@ -56,7 +56,7 @@ module _ (d : Description) (store : List ℕ) where
   in_read payload at count =
       let own : DiagCodedType → Outcome (List ℕ) = λ t. runtime_part payload at count in
       let long = not (eqb count 0) && ltb (length payload) (saturating_sum at count) in
-      concluded-number none [] (λ part. answer (read (8 * length part) (length part) (8 * length part)) part) (λ part. refl) (called d store (length payload) 0 0 own)
+      concluded-number none [] (λ part. answer (read (8 * length part) (length part)) part) (λ part. refl) (called d store (length payload) 0 0 own)
       ∙ called-number none store (length payload) 0 0 (length payload ∷ []) false own (λ f. (30 when long) ∷ []) refl refl (λ t few ten. thirty none long _ _ _ (λ z. refl)) d
 
   in_encode : (input : List ℕ) (p : Payload) (at pos : ℕ) → number_in (encoded d store input p at pos).report ≡ first_number (encode_order d store input p at pos)

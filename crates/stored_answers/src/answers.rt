@@ -12,7 +12,7 @@ pub const OTHER: u8 = 2;
 pub const CUT: u8 = 3;
 
 // Whether the call comes out as stored. What it writes to is in a copy of the body, so that the body still has what was there before.
-fn replayed(head: [u8; 23], body: &[u8; 1036], copy: &mut [u8]) -> bool {
+fn replayed(head: [u8; 21], body: &[u8; 1036], copy: &mut [u8]) -> bool {
     let input_at = 16 + wide(head[2]);
     let payload_at = input_at + wide(head[3]);
     let payload_len = wide(head[4]);
@@ -40,19 +40,19 @@ fn replayed(head: [u8; 23], body: &[u8; 1036], copy: &mut [u8]) -> bool {
 }
 
 // Whether all of a body came.
-fn came(head: [u8; 23], body: &mut [u8]) -> bool {
+fn came(head: [u8; 21], body: &mut [u8]) -> bool {
     let length = 16 + wide(head[2]) + wide(head[3]) + wide(head[4]) + wide(head[5]);
     io::read_full(0, part_mut(body, 0, length)) == length
 }
 
 // Where an answer is cut off, nothing says where the next would start: the list ends there.
 pub fn next() -> u8 {
-    let mut head = [0u8; 23];
+    let mut head = [0u8; 21];
     let got = io::read_full(0, &mut head);
     if got == 0 {
         return END;
     }
-    if got < 23 {
+    if got < 21 {
         return CUT;
     }
     let mut body: [u8; 1036] = [0; 1036];

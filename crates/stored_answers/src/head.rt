@@ -1,4 +1,4 @@
-// The head of a stored answer: 23 bytes that say which call, how long the parts of the body are, and which numbers go in and come out.
+// The head of a stored answer: 21 bytes that say which call, how long the parts of the body are, and which numbers go in and come out.
 ghost use Rattle.std.specs.Prelude.{◌<◌};
 
 pub fn wide(byte: u8) -> usize
@@ -25,12 +25,12 @@ fn far(high: usize, low: usize) -> usize
     usize::MAX - (4294967295 - number)
 }
 
-pub fn byte_pos(head: [u8; 23]) -> usize {
+pub fn byte_pos(head: [u8; 21]) -> usize {
     far(pair(head[8], head[9]), pair(head[10], head[11]))
 }
 
 // A number of one byte; those from 128 up stand for the last numbers below 2^64.
-pub fn bit_pos(head: [u8; 23]) -> usize {
+pub fn bit_pos(head: [u8; 21]) -> usize {
     let number = wide(head[12]);
     if number < 128 {
         return number;
@@ -38,8 +38,8 @@ pub fn bit_pos(head: [u8; 23]) -> usize {
     usize::MAX - (255 - number)
 }
 
-// Whether a call gave the stored number, counts, expected, actual and gathered.
-pub fn same_numbers(head: [u8; 23], number: u32, report: [usize; 5]) -> bool {
+// Whether a call gave the stored number, counts, expected and actual.
+pub fn same_numbers(head: [u8; 21], number: u32, report: [usize; 4]) -> bool {
     if number as usize != wide(head[1]) {
         return false;
     }
@@ -52,8 +52,5 @@ pub fn same_numbers(head: [u8; 23], number: u32, report: [usize; 5]) -> bool {
     if report[2] != far(pair(head[16], head[17]), pair(head[18], head[19])) {
         return false;
     }
-    if report[3] != wide(head[20]) {
-        return false;
-    }
-    report[4] == pair(head[21], head[22])
+    report[3] == wide(head[20])
 }

@@ -20,12 +20,12 @@ fn left_as_stored(bytes: &[u8], before: &[u8], after: &[u8]) -> bool {
     check::same(&bytes[front..], &before[front..])
 }
 
-pub fn decodes(head: [u8; 23], record: &[u8], store: &[u8], payload: &[u8], after: &[u8]) -> bool {
+pub fn decodes(head: [u8; 21], record: &[u8], store: &[u8], payload: &[u8], after: &[u8]) -> bool {
     let room = wide(head[6]);
     let blank: [u8; 256] = [0xEE; 256];
     let mut space: [u8; 256] = [0xEE; 256];
     let output = part_mut(&mut space, 0, room);
-    let mut report: [usize; 5] = [UNWRITTEN; 5];
+    let mut report: [usize; 4] = [UNWRITTEN; 4];
     let number = dct::dct_decode(
         record,
         store,
@@ -42,7 +42,7 @@ pub fn decodes(head: [u8; 23], record: &[u8], store: &[u8], payload: &[u8], afte
 }
 
 pub fn encodes(
-    head: [u8; 23],
+    head: [u8; 21],
     record: &[u8],
     store: &[u8],
     input: &[u8],
@@ -51,7 +51,7 @@ pub fn encodes(
     after: &[u8],
 ) -> bool {
     let mut used = wide(head[6]);
-    let mut report: [usize; 5] = [UNWRITTEN; 5];
+    let mut report: [usize; 4] = [UNWRITTEN; 4];
     let number = dct::dct_encode(
         record,
         store,
@@ -72,7 +72,7 @@ pub fn encodes(
 }
 
 pub fn clears(
-    head: [u8; 23],
+    head: [u8; 21],
     record: &[u8],
     store: &[u8],
     payload: &mut [u8],
@@ -80,7 +80,7 @@ pub fn clears(
     after: &[u8],
 ) -> bool {
     let used = wide(head[6]);
-    let mut report: [usize; 5] = [UNWRITTEN; 5];
+    let mut report: [usize; 4] = [UNWRITTEN; 4];
     let number = dct::dct_clear(
         record,
         store,
@@ -96,9 +96,9 @@ pub fn clears(
     false
 }
 
-pub fn reads(head: [u8; 23], record: &[u8], store: &[u8], payload: &[u8], after: &[u8]) -> bool {
+pub fn reads(head: [u8; 21], record: &[u8], store: &[u8], payload: &[u8], after: &[u8]) -> bool {
     let mut place = UNWRITTEN;
-    let mut report: [usize; 5] = [UNWRITTEN; 5];
+    let mut report: [usize; 4] = [UNWRITTEN; 4];
     let number = dct::dct_read(
         record,
         store,

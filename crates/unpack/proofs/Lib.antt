@@ -1,4 +1,3 @@
--- `Rooms` has the answer with room and without, `Sizes` how many bytes are taken, and `Gathered` what is gathered.
+-- `Rooms` has the answer with room and without, and `Sizes` how many bytes are taken.
 pub mod Rooms
 pub mod Sizes
-pub mod Gathered

@@ -20,14 +20,14 @@ module _ (f : Found) (output : List ℕ) (n : ℕ) (e : length f.bytes ≡ n) wh
   lacks_room h = rw (e, lt-ltb (length output) n h)
 
   -- n bytes are in front, and the rest of the output stays
-  pub has_room : n ≤ length output → read_answer output (gives f) ≡ answer (read f.bits n f.gathered_count) (f.bytes ++ drop n output)
+  pub has_room : n ≤ length output → read_answer output (gives f) ≡ answer (read f.bits n) (f.bytes ++ drop n output)
   unfolding read_answer
   has_room h = rw (le-ltb (length output) (length f.bytes) (rw e h), e)
 
   -- the same read off the code's values: the counts are those found, and the output has the bytes in front
-  pub has_room_by : n ≤ length output → (b : BitLength) (k : ByteCount) (g : BitLength) (xs : List ℕ) → n ≡ k.0 → f.bits ≡ b.0 → f.gathered_count ≡ g.0 → xs ≡ f.bytes
-      → answer (read b.0 k.0 g.0) (xs ++ drop n output) ≡ read_answer output (gives f)
-  has_room_by h b k g xs en eb eg ex = rw (has_room h, eb, eg, ex, en)
+  pub has_room_by : n ≤ length output → (b : BitLength) (k : ByteCount) (xs : List ℕ) → n ≡ k.0 → f.bits ≡ b.0 → xs ≡ f.bytes
+      → answer (read b.0 k.0) (xs ++ drop n output) ≡ read_answer output (gives f)
+  has_room_by h b k xs en eb ex = rw (has_room h, eb, ex, en)
 
 pub fits : (len pos n : ℕ) → pos ≤ 7 → pos + len ≤ 8 * n → unpack_refusal len pos n ≡ Passed
 fits len pos n p h = rw (le-ltb 7 pos p, le-ltb (8 * n) (pos + len) h)

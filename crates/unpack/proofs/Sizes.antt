@@ -1,4 +1,4 @@
--- How many bytes are taken from a field's cut, and how many bits are counted and gathered.
+-- How many bytes are taken from a field's cut, and how many bits are counted.
 use mathlib.Core.Path.{◌≡◌, refl, sym, ap, ◌∙◌}
 use mathlib.Core.Bool.{Bool, true, false}
 use mathlib.Core.List.{List}
@@ -11,7 +11,7 @@ use Rattle.bits.proofs.Moves.{length-extracted, length-overlaid}
 use Rattle.masks.specs.Mask.{plain_if, condensed_mask}
 use Rattle.condensed.specs.Condensed.{picked, bits_of, condensed_bytes}
 use Rattle.condensed.proofs.Size.{condensed-packed, length-condensed}
-use Rattle.unpack.specs.Unpacked.{bit_count_of, gathered_count, unpacked}
+use Rattle.unpack.specs.Unpacked.{bit_count_of, unpacked}
 
 pub length_plain : (masked : Bool) (mask : List ℕ) (len pos : ℕ) (xs : List ℕ) → length (unpacked (plain_if masked mask) len pos xs) ≡ bytes_for len
 unfolding unpacked
@@ -21,10 +21,6 @@ length_plain false mask len pos xs = length-extracted len pos xs
 pub count_plain : (masked : Bool) (mask : List ℕ) (len : ℕ) → bit_count_of (plain_if masked mask) len ≡ len
 count_plain true mask len = refl
 count_plain false mask len = refl
-
-pub gathered_plain : (masked : Bool) (mask : List ℕ) (len : ℕ) → gathered_count (plain_if masked mask) len ≡ len
-gathered_plain true mask len = refl
-gathered_plain false mask len = refl
 
 -- the size of a condensed reading does not depend on the field's bits
 pub length-condensed-field : (mask : List ℕ) (len pos : ℕ) (xs : List ℕ) → length (unpacked (condensed_mask mask) len pos xs) ≡ condensed_bytes mask len

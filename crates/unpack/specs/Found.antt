@@ -1,19 +1,17 @@
--- RULES 5.14, 5.16: what a reading finds, and what becomes of the output.
+-- RULES 5.14: what a reading finds, and what becomes of the output.
 use Rattle.std.specs.Prelude.{ℕ, List, [], ◌∷◌, ◌++◌, length, drop, ltb}
 use Rattle.kinds.specs.declared.refusals.Refusal.TheVariants.{OutputLacksRoom}
 use Rattle.kinds.specs.declared.refusals.Check.{Check}
 use Rattle.kinds.specs.Answers.{read}
 use Rattle.kinds.specs.Outcomes.{rule, first_among, Outcome, gives, after, following, Answer, answer, concluded}
 
--- the bit count, how many bits were gathered, and the bytes
+-- the bit count, and the bytes
 pub record Found : Type 0 where
   pub bits : ℕ
-  pub gathered_count : ℕ
   pub bytes : List ℕ
 
--- what is found where every bit that is counted is gathered
 abbrev pub found : ℕ → List ℕ → Found
-found bits bytes = record { bits = bits; gathered_count = bits; bytes = bytes }
+found bits bytes = record { bits = bits; bytes = bytes }
 
 -- 41: output lacks room
 abbrev pub room_refusal : List ℕ → List ℕ → Check
@@ -21,7 +19,7 @@ room_refusal bytes output = first_among (rule (ltb (length output) (length bytes
 
 -- the bytes are in front, and what is past them stays
 abbrev pub filled : List ℕ → Found → Answer (List ℕ)
-filled output f = answer (read f.bits (length f.bytes) f.gathered_count) (f.bytes ++ drop (length f.bytes) output)
+filled output f = answer (read f.bits (length f.bytes)) (f.bytes ++ drop (length f.bytes) output)
 
 -- the answer of a reading, with 41 last
 unfoldable pub read_answer : List ℕ → Outcome Found → Answer (List ℕ)

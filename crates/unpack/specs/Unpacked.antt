@@ -1,4 +1,4 @@
--- RULES 5.1 to 5.4, 5.16: what is taken from a field's ordered bytes, under its mask.
+-- RULES 5.1 to 5.4: what is taken from a field's ordered bytes, under its mask.
 use Rattle.std.specs.Prelude.{ℕ, ◌+◌, ◌*◌, List, [], ◌∷◌, length, ltb}
 use Rattle.kinds.specs.declared.refusals.Refusal.TheVariants.{BitPositionAboveSeven, BitsPastCut}
 use Rattle.kinds.specs.declared.refusals.Check.{Check}
@@ -9,8 +9,7 @@ use Rattle.masks.specs.declared.plain.Kept.TheVariants.{UnderOnes}
 use Rattle.masks.specs.Mask.{Mask, no_mask, plain_mask, condensed_mask}
 use Rattle.masks.specs.Plain.{masked}
 use Rattle.condensed.specs.Condensed.{condensed_count, condensed}
-use Rattle.condensed.specs.Gathered.{ones_met}
-use Rattle.unpack.specs.Found.{Found}
+use Rattle.unpack.specs.Found.{Found, found}
 
 -- 26: bit position above 7; 27: bit position + length above 8 x cut bytes
 abbrev pub unpack_refusal : ℕ → ℕ → ℕ → Check
@@ -26,12 +25,6 @@ bit_count_of no_mask len = len
 bit_count_of (plain_mask mask) len = len
 bit_count_of (condensed_mask mask) len = condensed_count mask len
 
--- how many bits are gathered: all, or those that meet a one of a condensed mask
-abbrev pub gathered_count : Mask → ℕ → ℕ
-gathered_count no_mask len = len
-gathered_count (plain_mask mask) len = len
-gathered_count (condensed_mask mask) len = ones_met mask len
-
 -- `len` bits from `pos`, right-aligned; a plain mask then keeps or clears, a condensed one gathers
 unfoldable pub unpacked : Mask → ℕ → ℕ → List ℕ → List ℕ
 unpacked no_mask len pos xs = extracted len pos xs
@@ -39,7 +32,7 @@ unpacked (plain_mask mask) len pos xs = masked UnderOnes len pos mask (extracted
 unpacked (condensed_mask mask) len pos xs = condensed mask len (from pos (bit_at xs))
 
 abbrev pub unpacked_found : Mask → ℕ → ℕ → List ℕ → Found
-unpacked_found mask len pos xs = record { bits = bit_count_of mask len; gathered_count = gathered_count mask len; bytes = unpacked mask len pos xs }
+unpacked_found mask len pos xs = found (bit_count_of mask len) (unpacked mask len pos xs)
 
 -- what is found in a cut of ordered bytes
 abbrev pub found_in : Mask → ℕ → ℕ → List ℕ → Outcome Found

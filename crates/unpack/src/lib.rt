@@ -65,7 +65,6 @@ fn unpack_bits(
     Reading::Read {
         bit_count: bit_len,
         byte_count,
-        gathered: bit_len,
     }
 }
 
@@ -90,7 +89,7 @@ fn apply_condensed_mask_unpacking(
     if output.len() < kept {
         return Reading::Refused(Refusal::OutputLacksRoom);
     }
-    let gathered = condensed::gather_bits(
+    condensed::gather_bits(
         mask,
         data,
         byte_order,
@@ -102,7 +101,6 @@ fn apply_condensed_mask_unpacking(
     Reading::Read {
         bit_count,
         byte_count,
-        gathered,
     }
 }
 

@@ -45,19 +45,15 @@ condensing bits size = standard 7 bits size
 abbrev leading : ℕ → List ℕ
 leading bits = 7 ∷ 1 ∷ 1 ∷ 0 ∷ 0 ∷ 0 ∷ 0 ∷ bits ∷ 0 ∷ 0 ∷ 0 ∷ 0 ∷ 0 ∷ 0 ∷ 0 ∷ 0 ∷ []
 
--- a decode at byte 0 and a bit position into four bytes EE: the six numbers, and then the output
+-- a decode at byte 0 and a bit position into four bytes EE: the five numbers, and then the output
 abbrev flat_read : Answer (List ℕ) → List ℕ
 flat_read a = a.report ++ a.left
 
 abbrev reads : List ℕ → List ℕ → List ℕ → ℕ → List ℕ
 reads bytes store payload pos = flat_read (decoded (by_record bytes) store payload 0 pos (0xEE ∷ 0xEE ∷ 0xEE ∷ 0xEE ∷ []))
 
--- all of the bits were gathered; or fewer
 abbrev gave : ℕ → ℕ → List ℕ → List ℕ
-gave bits size output = read bits size bits ++ output
-
-abbrev gave_only : ℕ → ℕ → ℕ → List ℕ → List ℕ
-gave_only gathered bits size output = read bits size gathered ++ output
+gave bits size output = read bits size ++ output
 
 abbrev refuses : ℕ → List ℕ
 refuses n = numbered n ++ (0xEE ∷ 0xEE ∷ 0xEE ∷ 0xEE ∷ [])
@@ -65,7 +61,7 @@ refuses n = numbered n ++ (0xEE ∷ 0xEE ∷ 0xEE ∷ 0xEE ∷ [])
 abbrev too_short : ℕ → ℕ → List ℕ
 too_short expected actual = short expected actual ++ (0xEE ∷ 0xEE ∷ 0xEE ∷ 0xEE ∷ [])
 
--- an encode on a payload that is used whole: the six numbers, the used length, and then the payload
+-- an encode on a payload that is used whole: the five numbers, the used length, and then the payload
 abbrev flat_written : Answer Payload → List ℕ
 flat_written a = a.report ++ (a.left.used ∷ a.left.bytes)
 
@@ -98,10 +94,10 @@ starred =
     ∷ (reads (condensing 8 1) (0xF0 ∷ []) (0xA5 ∷ []) 0 is gave 4 1 (0x0A ∷ 0xEE ∷ 0xEE ∷ 0xEE ∷ []))
     ∷ (writes (condensing 8 1) (0xF0 ∷ []) (0x0A ∷ []) (0x05 ∷ []) 0 is leaves (0xA5 ∷ []))
     -- j
-    ∷ (reads (condensing 4 1) (0xF0 ∷ []) (0x0F ∷ []) 0 is gave_only 0 4 1 (0x00 ∷ 0xEE ∷ 0xEE ∷ 0xEE ∷ []))
+    ∷ (reads (condensing 4 1) (0xF0 ∷ []) (0x0F ∷ []) 0 is gave 4 1 (0x00 ∷ 0xEE ∷ 0xEE ∷ 0xEE ∷ []))
     ∷ (writes (condensing 4 1) (0xF0 ∷ []) (0x0A ∷ []) (0x05 ∷ []) 0 is leaves_refused 36 (0x05 ∷ []))
     -- k
-    ∷ (reads (condensing 16 4) (0x00 ∷ 0x01 ∷ 0xFF ∷ 0xFF ∷ []) (0x00 ∷ 0x01 ∷ []) 0 is gave_only 1 16 1 (0x01 ∷ 0xEE ∷ 0xEE ∷ 0xEE ∷ []))
+    ∷ (reads (condensing 16 4) (0x00 ∷ 0x01 ∷ 0xFF ∷ 0xFF ∷ []) (0x00 ∷ 0x01 ∷ []) 0 is gave 16 1 (0x01 ∷ 0xEE ∷ 0xEE ∷ 0xEE ∷ []))
     ∷ (writes (condensing 16 2) (0xFF ∷ 0xFF ∷ []) (0x12 ∷ []) (0x00 ∷ 0x00 ∷ []) 0 is leaves (0xFF ∷ 0x12 ∷ []))
     -- l
     ∷ (reads (leading 8) [] (0x02 ∷ 0x41 ∷ 0x42 ∷ 0x43 ∷ []) 0 is gave 16 2 (0x41 ∷ 0x42 ∷ 0xEE ∷ 0xEE ∷ []))

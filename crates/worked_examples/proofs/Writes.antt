@@ -20,7 +20,7 @@ use Rattle.payload.specs.Writing.{spliced, in_cut_out, grown, writing, clearing}
 use Rattle.calls.specs.Calls.{Description, encoded, cleared_field}
 use Rattle.worked_examples.proofs.Descriptions.{coded, under, plainly, whole, behind, limited, unnamed}
 
--- number, bit count, byte count, expected, actual, gathered, used length, and then the payload
+-- number, bit count, byte count, expected, actual, used length, and then the payload
 abbrev flat : Answer Payload → List ℕ
 flat a = a.report ++ (a.left.used ∷ a.left.bytes)
 
@@ -32,13 +32,13 @@ clears t store payload used at pos = flat (cleared_field t store (payload_of pay
 
 -- 0, the used length and the payload; or a refusal's number; or too short
 abbrev wrote : ℕ → List ℕ → List ℕ
-wrote used payload = 0 ∷ 0 ∷ 0 ∷ 0 ∷ 0 ∷ 0 ∷ used ∷ payload
+wrote used payload = 0 ∷ 0 ∷ 0 ∷ 0 ∷ 0 ∷ used ∷ payload
 
 abbrev refuses : ℕ → ℕ → List ℕ → List ℕ
-refuses n used payload = n ∷ 0 ∷ 0 ∷ 0 ∷ 0 ∷ 0 ∷ used ∷ payload
+refuses n used payload = n ∷ 0 ∷ 0 ∷ 0 ∷ 0 ∷ used ∷ payload
 
 abbrev too_short : ℕ → ℕ → List ℕ → List ℕ
-too_short expected used payload = 30 ∷ 0 ∷ 0 ∷ expected ∷ used ∷ 0 ∷ used ∷ payload
+too_short expected used payload = 30 ∷ 0 ∷ 0 ∷ expected ∷ used ∷ used ∷ payload
 
 -- room that was not used
 abbrev room : ℕ → List ℕ

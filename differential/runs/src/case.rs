@@ -59,8 +59,8 @@ pub struct Answer {
     pub number: u32,
     /// The letter of the number's class, 0 on success.
     pub class: u32,
-    /// Bit count, byte count, expected, actual, gathered.
-    pub report: [usize; 5],
+    /// Bit count, byte count, expected, actual.
+    pub report: [usize; 4],
     /// The output after a decode, the payload after an encode or a clear, the part that a read found, a written value.
     pub bytes: Vec<u8>,
     /// The used length after an encode.
@@ -87,7 +87,7 @@ impl Answer {
 
     /// The refusal 30.
     pub fn short(expected: usize, actual: usize, call: &Call) -> Answer {
-        Answer { class: class::NOT_ENOUGH_DATA, report: [0, 0, expected, actual, 0], ..Answer::refused(30, call) }
+        Answer { class: class::NOT_ENOUGH_DATA, report: [0, 0, expected, actual], ..Answer::refused(30, call) }
     }
 }
 
@@ -146,10 +146,9 @@ impl fmt::Display for Case {
 
 impl fmt::Display for Answer {
     fn fmt(&self, f: &mut fmt::Formatter) -> fmt::Result {
-        let [bits, bytes, expected, actual, gathered] = self.report;
+        let [bits, bytes, expected, actual] = self.report;
         let class = shown(self.class);
         write!(f, "{} {class}, {bits} bits, {bytes} bytes, expected {expected}, actual {actual}, ", self.number)?;
-        write!(f, "gathered {gathered}, ")?;
         write!(f, "used {}, places {:?}, value {}, bytes {}", self.used, self.places, self.value, Hex(&self.bytes))
     }
 }

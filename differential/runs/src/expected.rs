@@ -2,7 +2,6 @@
 //! original.
 use crate::case::{Answer, Call, Case};
 use crate::field::{Field, Variant, is_numeric};
-use crate::gathered;
 use crate::original_side::{Refusal, coded_type};
 use crate::values;
 use original::diag_coded_type::DiagCodedType;
@@ -54,13 +53,22 @@ pub fn expected(case: &Case, met: &mut Met) -> Answer {
 /// The answer of a call that the original refuses, of the class that it has there.
 fn refused(refusal: &Refusal, call: &Call) -> Answer {
     let Refusal { number, class, expected, actual } = *refusal;
-    Answer { class, report: [0, 0, expected, actual, 0], ..Answer::refused(number, call) }
+    Answer { class, report: [0, 0, expected, actual], ..Answer::refused(number, call) }
 }
 
 /// What a call on a legal coded type answers.
 fn answered(field: &Field, coded: &DiagCodedType, call: &Call, met: &mut Met) -> Result<Answer, Refusal> {
     Ok(match call {
-        Call::Decode { .. } => decoded(field, coded, call, met)?,
+        Call::Decode { payload, byte_pos, bit_pos, output } => {
+            let (mut bytes, bit_count) = coded.decode(payload, *byte_pos, *bit_pos)?;
+            if bytes.len() > output.len() {
+                met.room += 1;
+                return Ok(Answer::refused(41, call));
+            }
+            let report = [bit_count, bytes.len(), 0, 0];
+            bytes.extend(&output[bytes.len()..]);
+            Answer { report, bytes, ..Answer::default() }
+        }
         Call::Encode { input, payload, used, byte_pos, bit_pos } => {
             match written(field, coded, input, &payload[..*used], *byte_pos, *bit_pos, met)? {
                 Written::Bytes(mut bytes) if bytes.len() <= payload.len() => {
@@ -88,29 +96,10 @@ fn answered(field: &Field, coded: &DiagCodedType, call: &Call, met: &mut Met) ->
         Call::Read { payload, byte_pos, byte_count } => {
             let (bytes, bit_count) = coded.decode_with_runtime_byte_length(payload, *byte_pos, *byte_count)?;
             let place = if bytes.is_empty() { 0 } else { *byte_pos };
-            Answer { report: [bit_count, bytes.len(), 0, 0, bit_count], bytes, places: [place, 0, 0], ..Answer::default() }
+            Answer { report: [bit_count, bytes.len(), 0, 0], bytes, places: [place, 0, 0], ..Answer::default() }
         }
         Call::Fetch { .. } | Call::ReadValue { .. } | Call::WriteValue { .. } => unreachable!("it has no coded type"),
     })
-}
-
-/// What a decode answers: the original's bytes and bit count, and by the second reading how many bits were gathered.
-fn decoded(field: &Field, coded: &DiagCodedType, call: &Call, met: &mut Met) -> Result<Answer, Refusal> {
-    let Call::Decode { payload, byte_pos, bit_pos, output } = call else { unreachable!("it is no decode") };
-    let (mut bytes, bit_count) = coded.decode(payload, *byte_pos, *bit_pos)?;
-    let gathered = gathered::counted(field, bit_count);
-    let under_condensed = gathered::condensed(field).is_some();
-    if under_condensed && !gathered::is_shown(gathered, coded, payload.len(), *byte_pos, *bit_pos) {
-        // a number that no call gives: the second reading is wrong
-        return Ok(Answer::refused(97, call));
-    }
-    if bytes.len() > output.len() {
-        met.room += 1;
-        return Ok(Answer::refused(41, call));
-    }
-    let report = [bit_count, bytes.len(), 0, 0, gathered];
-    bytes.extend(&output[bytes.len()..]);
-    Ok(Answer { report, bytes, ..Answer::default() })
 }
 
 /// What the original wrote: the payload, or just where it would end, too far to be made.

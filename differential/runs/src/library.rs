@@ -1,11 +1,11 @@
 //! Our library, called as C calls it: everything lent stands between marks, so that a byte written beside it shows.
 use crate::case::{Answer, Call, Case};
-use dct::raw::{Report, dct_class, dct_clear, dct_decode, dct_encode, dct_fetch, dct_read, dct_value_read, dct_value_write};
+use dct::raw::{dct_class, dct_clear, dct_decode, dct_encode, dct_fetch, dct_read, dct_value_read, dct_value_write};
 use std::ptr;
 
 const MARK: [u8; 16] = [0xC5; 16];
 /// What stands where a call has to write a number.
-pub const UNWRITTEN: usize = 0x5EED_5EED_5EED_5EED;
+const UNWRITTEN: usize = 0x5EED_5EED_5EED_5EED;
 
 /// The four slices lent to one call, each between marks.
 pub struct Lent {
@@ -70,9 +70,6 @@ fn lending(case: &Case) -> ([&[u8]; 4], Option<usize>) {
     }
 }
 
-// `made` lends the answer's report in place of one that C has, which no type compares
-const _: () = assert!(size_of::<Report>() == size_of::<[usize; 5]>());
-
 /// Makes the call, and leaves the numbers that it gives in the answer.
 fn made(call: &Call, lent: &mut Lent, answer: &mut Answer) {
     let [(r, m), (s, n), (p, k), (q, l)] = [0, 1, 2, 3].map(|i| lent.pointer(i));
@@ -102,12 +99,12 @@ pub fn call_then(case: &Case, spoil: fn(&mut Lent)) -> Result<Answer, &'static s
     let (before, written) = lending(case);
     let mut lent = Lent::new(before);
     let (report, used, places, value) = match case.call {
-        Call::Encode { used, .. } => ([UNWRITTEN; 5], used, [0; 3], 0),
-        Call::Read { .. } => ([UNWRITTEN; 5], 0, [UNWRITTEN, 0, 0], 0),
-        Call::Fetch { .. } => ([0; 5], 0, [UNWRITTEN; 3], 0),
-        Call::Decode { .. } | Call::Clear { .. } => ([UNWRITTEN; 5], 0, [0; 3], 0),
-        Call::ReadValue { before, .. } => ([0; 5], 0, [0; 3], before),
-        Call::WriteValue { .. } => ([0; 5], 0, [0; 3], 0),
+        Call::Encode { used, .. } => ([UNWRITTEN; 4], used, [0; 3], 0),
+        Call::Read { .. } => ([UNWRITTEN; 4], 0, [UNWRITTEN, 0, 0], 0),
+        Call::Fetch { .. } => ([0; 4], 0, [UNWRITTEN; 3], 0),
+        Call::Decode { .. } | Call::Clear { .. } => ([UNWRITTEN; 4], 0, [0; 3], 0),
+        Call::ReadValue { before, .. } => ([0; 4], 0, [0; 3], before),
+        Call::WriteValue { .. } => ([0; 4], 0, [0; 3], 0),
     };
     let mut answer = Answer { report, used, places, value, ..Answer::default() };
     made(&case.call, &mut lent, &mut answer);

@@ -7,8 +7,6 @@ mod exhaustive;
 mod expected;
 mod faults;
 mod field;
-mod gathered;
-mod gathered_faults;
 mod getters;
 mod large;
 mod library;

@@ -36,7 +36,7 @@ fn changed(before: &[u8], after: &[u8]) -> usize {
 /// The answer's form, if it has one: slices of at most 255 bytes, positions that are near or near 2^64.
 fn stored(case: &Case, answer: &Answer) -> Option<Vec<u8>> {
     let none = Vec::new();
-    let [bit_count, byte_count, expected, actual, gathered] = answer.report;
+    let [bit_count, byte_count, expected, actual] = answer.report;
     let (code, input, payload, byte_pos, bit_pos, lent, left, after) = match &case.call {
         Call::Decode { payload, byte_pos, bit_pos, output } if output.iter().all(|byte| *byte == 0xEE) => {
             (1, &none, payload, *byte_pos, *bit_pos, output.len(), 0, &answer.bytes[..byte_count])
@@ -65,7 +65,6 @@ fn stored(case: &Case, answer: &Answer) -> Option<Vec<u8>> {
     bytes.push(byte(byte_count)?);
     bytes.extend(far(expected, 4)?);
     bytes.push(byte(actual)?);
-    bytes.extend(u16::try_from(gathered).ok()?.to_be_bytes());
     for part in [&case.record, &case.store, input, payload, after] {
         bytes.extend(part);
     }
@@ -96,6 +95,5 @@ pub fn run(seed: u64) -> bool {
     for (kind, name) in Call::NAMES[..4].iter().enumerate() {
         eprintln!("{name}: {}", tally.numbers_of(kind));
     }
-    eprintln!("{}", tally.condensed_readings());
     io::stdout().write_all(&list).is_ok()
 }

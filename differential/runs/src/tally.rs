@@ -1,7 +1,6 @@
 //! A run: cases by their numbers, the library's answer to each beside the expected one, and what was counted.
 use crate::case::{Answer, Call, Case, class, shown};
 use crate::expected::{Met, expected};
-use crate::gathered::{SHAPES, shapes};
 use std::ops::Range;
 use std::sync::Mutex;
 use std::sync::atomic::{AtomicU64, Ordering};
@@ -20,14 +19,11 @@ pub struct Tally {
     pub numbers: [[u64; 100]; Call::NAMES.len()],
     /// How often each class arose, in the order of `class::ALL`.
     pub classes: [u64; 4],
-    /// How often readings under condensed masks had each of `SHAPES`.
-    pub shapes: [u64; SHAPES.len()],
 }
 
 impl Tally {
     pub fn new() -> Tally {
-        let (numbers, classes, shapes) = ([[0; 100]; Call::NAMES.len()], [0; 4], [0; SHAPES.len()]);
-        Tally { calls: 0, differences: 0, met: Met::default(), numbers, classes, shapes }
+        Tally { calls: 0, differences: 0, met: Met::default(), numbers: [[0; 100]; Call::NAMES.len()], classes: [0; 4] }
     }
 
     pub fn add(&mut self, other: &Tally) {
@@ -42,20 +38,14 @@ impl Tally {
         for (mine, theirs) in self.classes.iter_mut().zip(other.classes) {
             *mine += theirs;
         }
-        for (mine, theirs) in self.shapes.iter_mut().zip(other.shapes) {
-            *mine += theirs;
-        }
     }
 
-    /// Counts a call, its number, its class and its shapes.
+    /// Counts a call, its number and its class.
     pub fn count(&mut self, case: &Case, answer: &Answer) {
         self.calls += 1;
         self.numbers[case.call.kind()][answer.number as usize] += 1;
         if let Some(place) = class::ALL.iter().position(|class| *class == answer.class) {
             self.classes[place] += 1;
-        }
-        for (count, has) in self.shapes.iter_mut().zip(shapes(case, answer)) {
-            *count += u64::from(has);
         }
     }
 
@@ -63,12 +53,6 @@ impl Tally {
     pub fn numbers_of(&self, kind: usize) -> String {
         let counts = self.numbers[kind].iter().enumerate().filter(|(_, count)| **count > 0);
         counts.map(|(number, count)| format!("{number}: {count}")).collect::<Vec<_>>().join(", ")
-    }
-
-    /// How often readings under condensed masks had which shape.
-    pub fn condensed_readings(&self) -> String {
-        let counts = SHAPES.iter().zip(self.shapes).map(|(shape, count)| format!("{shape}: {count}"));
-        format!("readings under condensed masks: {}", counts.collect::<Vec<_>>().join(", "))
     }
 
     /// Compares one case, and says where the answers differ.
@@ -124,8 +108,6 @@ impl Tally {
             class::ALL.iter().zip(self.classes).map(|(class, n)| format!("{}: {n}", shown(*class))).collect();
         println!("classes: {}", classes.join(", "));
         all &= self.classes.iter().all(|count| *count > 0);
-        println!("{}", self.condensed_readings());
-        all &= self.shapes.iter().all(|count| *count > 0);
         let Met { far, grown, room } = self.met;
         println!(
             "known differences met: {room} where room decides, {grown} refused by the Rust after it had grown the payload,"

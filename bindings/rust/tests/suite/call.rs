@@ -1,6 +1,6 @@
 //! A call through the interface, and all that comes of it.
 use crate::values;
-use dct::{Encoding, Field, Reading, Refusal};
+use dct::{Encoding, Field, Refusal};
 
 /// What a call is given.
 pub enum Call {
@@ -42,7 +42,6 @@ pub struct Answer {
     pub actual: usize,
     pub bit_count: usize,
     pub byte_count: usize,
-    pub gathered: usize,
     /// The used length after an encode.
     pub used: usize,
     /// Where a part starts in the payload.
@@ -104,9 +103,7 @@ impl Call {
             Call::Decode { field, payload, byte_pos, bit_pos, room } => {
                 let mut output = vec![BLANK; *room];
                 let answer = match dct::decode(field.field(), payload, *byte_pos, *bit_pos, &mut output) {
-                    Ok(Reading { bit_count, byte_count, gathered, .. }) => {
-                        Answer { bit_count, byte_count, gathered, ..Answer::default() }
-                    }
+                    Ok(reading) => Answer { bit_count: reading.bit_count, byte_count: reading.byte_count, ..Answer::default() },
                     Err(refusal) => refusal.into(),
                 };
                 Answer { bytes: output, ..answer }
@@ -148,7 +145,6 @@ fn read(field: &Described, payload: &[u8], byte_pos: usize, byte_count: usize) -
         Ok(part) => Answer {
             bit_count: part.bit_count,
             byte_count: part.bytes.len(),
-            gathered: part.gathered,
             // a copy is anywhere but in the payload
             place: (part.bytes.as_ptr() as usize).wrapping_sub(payload.as_ptr() as usize),
             bytes: part.bytes.to_vec(),

@@ -102,7 +102,7 @@ impl<'t> Words<'t> {
             (_, 1..) => {}
             (Call::Fetch { .. }, 0) => (answer.bytes, answer.store) = (self.bytes(), self.bytes()),
             (Call::Decode { .. }, 0) => {
-                (answer.bit_count, answer.gathered) = (self.number(), self.number());
+                answer.bit_count = self.number();
                 let read = self.bytes();
                 answer.byte_count = read.len();
                 answer.bytes[..read.len()].copy_from_slice(&read);
@@ -111,8 +111,7 @@ impl<'t> Words<'t> {
             (Call::Clear { .. } | Call::ValueWrite { .. }, 0) => answer.bytes = self.bytes(),
             (Call::ValueRead { .. } | Call::DecodeValue { .. }, 0) => answer.value = self.number(),
             (Call::Read { .. }, 0) => {
-                (answer.bit_count, answer.gathered) = (self.number(), self.number());
-                (answer.place, answer.bytes) = (self.number(), self.bytes());
+                (answer.bit_count, answer.place, answer.bytes) = (self.number(), self.number(), self.bytes());
                 answer.byte_count = answer.bytes.len();
             }
         }

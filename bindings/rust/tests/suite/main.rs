@@ -5,10 +5,8 @@ mod stored;
 mod values;
 
 use call::Case;
-use dct::raw::Report;
 use dct::{Class, Refusal};
 use std::collections::HashSet;
-use std::mem::{offset_of, size_of};
 use std::sync::LazyLock;
 
 const HEADER: &str = include_str!("../../../../include/dct.h");
@@ -120,38 +118,6 @@ fn encodings_of_the_header() {
     let ours = values::ENCODINGS.map(|encoding| (format!("{encoding:?}").to_uppercase(), encoding as u32));
     let named = |(name, code, _): (String, u32, String)| (name.replace('_', ""), code);
     assert_eq!(listed("TWOS_COMPLEMENT").into_iter().map(named).collect::<Vec<_>>(), ours);
-}
-
-#[test]
-fn report_of_the_header() {
-    let start = HEADER.find("struct dct_report {\n").expect("not in the header");
-    let named = |line: &str| line.trim().strip_prefix("size_t ")?.split_once(';').map(|(name, _)| name.to_owned());
-    let lines = HEADER[start..].lines().skip(1).take_while(|line| *line != "};");
-    let names: Vec<_> = lines.map(|line| named(line).expect("no number of a report")).collect();
-    assert_eq!(names, ["bit_count", "byte_count", "expected", "actual", "gathered"]);
-    let ours = [
-        offset_of!(Report, bit_count),
-        offset_of!(Report, byte_count),
-        offset_of!(Report, expected),
-        offset_of!(Report, actual),
-        offset_of!(Report, gathered),
-        size_of::<Report>(),
-    ];
-    assert_eq!(ours, [0, 8, 16, 24, 32, 40]);
-}
-
-/// Of the bytes of a reading the lowest `gathered` bits mean something, and all above those are 0.
-#[test]
-fn gathered_bits_alone() {
-    let mut fewer = 0;
-    for Case { place, call, .. } in STORED.iter().chain(CASES.iter()).filter(|case| case.call.name() == "decode") {
-        let made = call.made();
-        assert!(made.gathered <= made.bit_count, "{place}");
-        let above = made.bytes[..made.byte_count].iter().rev().flat_map(|byte| (0..8).map(move |bit| byte >> bit & 1));
-        assert!(above.skip(made.gathered).all(|bit| bit == 0), "{place}");
-        fewer += usize::from(made.gathered < made.bit_count);
-    }
-    assert!(fewer > 100, "{fewer} gathered fewer bits than they count");
 }
 
 #[test]

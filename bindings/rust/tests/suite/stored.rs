@@ -2,7 +2,7 @@
 use crate::call::{Answer, Call, Case, Described, BLANK};
 
 const LIST: &[u8] = include_bytes!("../../../../crates/replay/stdin");
-const HEAD: usize = 23;
+const HEAD: usize = 21;
 
 /// A number of several bytes, of which the upper half stands for the last numbers below 2^64.
 fn far(bytes: &[u8]) -> usize {
@@ -44,7 +44,6 @@ fn next(rest: &mut &[u8]) -> (Call, Answer) {
         byte_count: usize::from(head[15]),
         expected: far(&head[16..20]),
         actual: usize::from(head[20]),
-        gathered: plain(&head[21..23]),
         ..Answer::default()
     };
     match head[0] {

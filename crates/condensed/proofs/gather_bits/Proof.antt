@@ -12,7 +12,6 @@ use Rattle.bits.specs.Moves.{from}
 use Rattle.bits.proofs.Bytes.{bit_at_lt, packed_zero}
 use Rattle.condensed.specs.Condensed.{front_bit, gathered, picked, bits_of}
 use Rattle.condensed.proofs.Gather.{Gathering, gathering_more}
-use Rattle.condensed.proofs.Size.{length-picked}
 use Rattle.condensed.proofs.gather_bits.Statement.{statement}
 use Rattle.condensed.proofs.gather_bits.Tie as tie
 
@@ -77,7 +76,7 @@ returns c = let k = c.before in
     let g = k.loop.invariant.2 in
     let is : gathered (front_bit s.args.bit_mask.now c.before.before.before.byte-count.result.0) (from s.args.bit-pos (bit_at (ordered s.args.byte-order s.args.«data».now))) k.loop.i ≡ picked s.args.bit_mask.now s.args.bit-len.0 (from s.args.bit-pos (bit_at (ordered s.args.byte-order s.args.«data».now))) =
     ap₂ (λ (n i : ℕ). gathered (front_bit s.args.bit_mask.now n) (from s.args.bit-pos (bit_at (ordered s.args.byte-order s.args.«data».now))) i) field all in
-    (g.many ∙ ap length is ∙ length-picked s.args.bit_mask.now s.args.bit-len.0 (from s.args.bit-pos (bit_at (ordered s.args.byte-order s.args.«data».now))), g.bits ∙ ap₂ (λ (n : ℕ) (l : List ℕ). packed n (bits_of l)) z.auto.0 is)
+    (g.many ∙ ap length is, g.bits ∙ ap₂ (λ (n : ℕ) (l : List ℕ). packed n (bits_of l)) z.auto.0 is)
 
 pub gather-bits-spec : {M : Type 1} → statement M
 gather-bits-spec =

@@ -45,7 +45,7 @@ returns-2 c = let s = c.before.before.before.before.before.before.before.before.
     let room = c.before.before.before.before.before.if1.false in
     let xs = ordered s.args.byte-order s.args.«data».now in
     has_room_by (unpacked_found (condensed_mask s.args.mask.now) s.args.bit-len.0 s.args.bit-pos xs) s.args.output.now n.result
-    (length-condensed-field s.args.mask.now s.args.bit-len.0 s.args.bit-pos xs ∙ sym (size c.before.before.before.before.before.before)) room _ _ _ _ n.ensures (sym c.before.before.before.before.before.before.before.before.condensed-size.ensures.0) (sym c.before.before.before.gather-bits.ensures.0)
+    (length-condensed-field s.args.mask.now s.args.bit-len.0 s.args.bit-pos xs ∙ sym (size c.before.before.before.before.before.before)) room _ _ _ n.ensures (sym c.before.before.before.before.before.before.before.before.condensed-size.ensures.0)
     (c.before.before.before.gather-bits.ensures.1 ∙ gathered_is s.args.mask.now s.args.bit-len.0 s.args.bit-pos xs _ (length-take-le n.result s.args.output.now room ∙ size c.before.before.before.before.before.before))
 
 pub apply-condensed-mask-unpacking-spec : {M : Type 1} → statement M

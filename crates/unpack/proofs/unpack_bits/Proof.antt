@@ -6,7 +6,7 @@ use Rattle.order.specs.Order.{ordered}
 use Rattle.masks.specs.Mask.{plain_if}
 use Rattle.unpack.specs.Unpacked.{unpacked, unpacked_found}
 use Rattle.unpack.proofs.Rooms.{lacks_room, has_room_by}
-use Rattle.unpack.proofs.Sizes.{length_plain, count_plain, gathered_plain}
+use Rattle.unpack.proofs.Sizes.{length_plain, count_plain}
 use borrow.Author.Rules.{rules}
 use Rattle.unpack.proofs.unpack_bits.Statement.{statement}
 use Rattle.unpack.proofs.unpack_bits.Tie as tie
@@ -43,7 +43,7 @@ returns-2 : tie.Need-returns-2
 returns-2 c = let s = c.before.before.before.before.before.before.before.before.before.before in
     let n = c.before.before.before.before.before.bytes in
     let f = unpacked_found (plain_if s.args.masked s.args.mask.now) s.args.bit-len.0 s.args.bit-pos (ordered s.args.byte-order s.args.«data».now) in
-    has_room_by f s.args.output.now n.result (size c.before.before.before.before.before) c.before.before.before.before.if1.false _ _ _ _ n.ensures (count_plain s.args.masked s.args.mask.now s.args.bit-len.0) (gathered_plain s.args.masked s.args.mask.now s.args.bit-len.0) c.before.before.extract-kept-bits.ensures
+    has_room_by f s.args.output.now n.result (size c.before.before.before.before.before) c.before.before.before.before.if1.false _ _ _ n.ensures (count_plain s.args.masked s.args.mask.now s.args.bit-len.0) c.before.before.extract-kept-bits.ensures
 
 pub unpack-bits-spec : {M : Type 1} → statement M
 unpack-bits-spec =

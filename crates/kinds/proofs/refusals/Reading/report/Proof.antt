@@ -12,9 +12,6 @@ bits-requires c κs = search rules
 bytes-requires : tie.Need-bytes-requires
 bytes-requires c κs = search rules
 
-bits-requires-2 : tie.Need-bits-requires-2
-bits-requires-2 c κs = search rules
-
 enum-known-self-2 : tie.Need-enum-known-self-2
 enum-known-self-2 c = search rules
 
@@ -25,7 +22,7 @@ number-requires : tie.Need-number-requires
 number-requires c κs = search rules
 
 returns : tie.Need-returns
-returns c = rw (c.before.before.before.before.before.self.given.1, c.before.bits2.ensures, c.before.before.bytes.ensures, c.before.before.before.bits.ensures)
+returns c = rw (c.before.before.before.before.self.given.1, c.before.bytes.ensures, c.before.before.bits.ensures)
 
 returns-2 : tie.Need-returns-2
 returns-2 c = rw c.before.before.self2.given.1
@@ -40,7 +37,6 @@ report-spec =
     enum-known-self
     bits-requires
     bytes-requires
-    bits-requires-2
     enum-known-self-2
     enum-known-self-3
     number-requires
