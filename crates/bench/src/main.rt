@@ -1,4 +1,6 @@
 // Runs the bench cases of RULES 13 and prints a line for each: letter, space, `same` or `differs`.
+#![tactic(auto)]
+
 mod records; // records.rt: the records of the cases
 mod compare; // compare.rt: what is answered beside what should be
 mod reading; // reading.rt: the cases that read

@@ -1,4 +1,6 @@
 // Bits of bytes: one bit read or set, and a run of bits taken out of bytes.
+#![tactic(auto)]
+
 ghost use Rattle.std.specs.Prelude.{◌≡◌, ◌+◌, ◌*◌, ◌%◌, ◌<◌, ◌≤◌, length, replicate, ltb};
 ghost use Rattle.kinds.specs.Types.{bytes_for};
 ghost use Rattle.order.specs.Order.{ordered};

@@ -1,4 +1,6 @@
 // Every call, by a coded type and by its record. Every input gets an answer: nothing is required of it.
+#![tactic(auto)]
+
 mod decoding; // decoding.rt: decode
 mod encoding; // encoding.rt: encode
 mod clearing; // clearing.rt: clear

@@ -1,4 +1,6 @@
 // The class of a refusal, told by its number.
+#![tactic(auto)]
+
 ghost use Rattle.std.specs.Prelude.{◌≡◌};
 ghost use Rattle.classes.specs.Classes.{class_letter};
 

@@ -1,4 +1,6 @@
 // The field layer: a field decoded, encoded and cleared. It knows no store and no record: the mask comes as its use and a slice.
+#![tactic(auto)]
+
 mod decoding; // decoding.rt: decode
 mod encoding; // encoding.rt: encode
 mod clearing; // clearing.rt: clear

@@ -1,4 +1,6 @@
 // Bits gathered through a condensed mask, and bits put to the ones of one.
+#![tactic(auto)]
+
 ghost use Rattle.std.specs.Prelude.{◌≡◌, false, cond, ◌+◌, ◌*◌, ◌^◌, ◌<◌, ◌≤◌, length, eqb};
 ghost use Rattle.kinds.specs.Types.{bytes_for};
 ghost use Rattle.order.specs.Order.{ordered};

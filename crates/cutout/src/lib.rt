@@ -1,4 +1,6 @@
 // The ordered cut-out: a source put into it, and a field's own bits taken out of it.
+#![tactic(auto)]
+
 ghost use Rattle.std.specs.Prelude.{◌≡◌, ◌+◌, ◌*◌, ◌^◌, ◌<◌, ◌≤◌, length};
 ghost use Rattle.order.specs.Order.{ordered};
 ghost use Rattle.masks.specs.Mask.{mask_of};

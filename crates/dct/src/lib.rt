@@ -1,4 +1,6 @@
 // The functions that C calls, and nothing else. Every byte pattern and every number gets an answer: nothing is required.
+#![tactic(auto)]
+
 ghost use Rattle.std.specs.Prelude.{◌≡◌, ◌∷◌};
 ghost use Rattle.kinds.specs.Answers.{numbered, report_of_check};
 ghost use Rattle.classes.specs.Classes.{class_letter};

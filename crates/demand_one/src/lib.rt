@@ -1,1 +1,2 @@
 // Theorems on what C calls. There is no code.
+#![tactic(auto)]

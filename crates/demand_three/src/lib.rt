@@ -1,1 +1,2 @@
 // Theorems on lists of fields. There is no code.
+#![tactic(auto)]

@@ -1,5 +1,7 @@
 // What every call does after its slices: what the coded type's own description is refused for, and then its field. Here a coded type and
 // its store become a field: masks are parts of the store.
+#![tactic(auto)]
+
 mod decoding; // decoding.rt: decode
 mod encoding; // encoding.rt: encode
 mod clearing; // clearing.rt: clear

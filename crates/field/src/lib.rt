@@ -1,5 +1,7 @@
 // A coded type with its store taken apart into a field: what its variant says, its mask as a part of the store, and what is
 // refused before a call's own rules.
+#![tactic(auto)]
+
 ghost use Rattle.std.specs.Prelude.{◌≡◌, length};
 ghost use Rattle.kinds.specs.Slices.{place_behind};
 ghost use Rattle.field.specs.Field.{outside, part_of, part_at, start_of, start_at, store_place, use_at, use_of, shape_of};

@@ -1,4 +1,6 @@
 // Prints what the getters say of each record of the standard input, in the lines that docs/DIFFERENTIAL.md tells of.
+#![tactic(auto)]
+
 mod columns; // columns.rt: what a line is made of
 mod lines; // lines.rt: the lines of what a record says
 

@@ -1,4 +1,6 @@
 // What encode and clear refuse for a variant's sake, its lengths and its mask's, and the mask that counts in them.
+#![tactic(auto)]
+
 ghost use Rattle.std.specs.Prelude.{◌≡◌, [], ◌∷◌, ◌*◌, ◌≤◌, length, ltb};
 ghost use Rattle.kinds.specs.Outcomes.{rule, first_among};
 ghost use Rattle.masks.specs.Mask.{mask_of};

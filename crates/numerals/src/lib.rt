@@ -1,4 +1,6 @@
 // Numbers in three forms: as bytes, as digits, and an i64 as its sign and its magnitude.
+#![tactic(auto)]
+
 mod digits; // digits.rt: digits of one base taken as those of another
 mod patterns; // patterns.rt: bytes as the number that their bits make, and back
 mod signed; // signed.rt: an i64 as its sign and its magnitude

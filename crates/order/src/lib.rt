@@ -1,4 +1,6 @@
 // The order of a run of bytes: read by index, so that nothing is copied, or turned in place in a cut-out.
+#![tactic(auto)]
+
 ghost use Rattle.std.specs.Prelude.{◌≡◌, reverse, ◌<◌, length, get_or};
 ghost use Rattle.order.specs.Order.{ordered, swap_pairs};
 

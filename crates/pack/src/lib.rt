@@ -1,4 +1,6 @@
 // The source of a write: bits of the input and of what stands before and after it, read by index. Nothing is copied.
+#![tactic(auto)]
+
 ghost use Rattle.std.specs.Prelude.{◌≡◌, cond, ◌+◌, ◌*◌, ◌%◌, ◌^◌, ◌<◌, ◌≤◌, length, eqb};
 ghost use Rattle.bits.specs.Moves.{injected};
 ghost use Rattle.masks.specs.Mask.{mask_of, plain_if};

@@ -1,4 +1,6 @@
 // So many bytes of a payload, handed back as a part of it with the report beside.
+#![tactic(auto)]
+
 ghost use Rattle.std.specs.Prelude.{◌≡◌, [], ◌∷◌, ◌≤◌, length};
 ghost use Rattle.kinds.specs.Answers.{refused};
 ghost use Rattle.kinds.specs.Outcomes.{answer};

@@ -1,4 +1,6 @@
 // A payload that is a slice with a used length: growth, and a cut-out of it written or cleared.
+#![tactic(auto)]
+
 ghost use Rattle.std.specs.Prelude.{◌≡◌, ◌^◌, ◌<◌, ◌≤◌, max, length};
 ghost use Rattle.masks.specs.Mask.{mask_of};
 ghost use Rattle.pack.specs.Source.{size_under};

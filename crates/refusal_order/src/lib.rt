@@ -1,1 +1,2 @@
 // Theorems on the order of refusals. There is no code.
+#![tactic(auto)]

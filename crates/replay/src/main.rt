@@ -1,4 +1,5 @@
 // Makes the calls of stored answers again: reads the answers from the standard input and prints how many come out the same.
+#![tactic(auto)]
 
 // How many answers were the same, and how many not.
 #[derive(Drop)]

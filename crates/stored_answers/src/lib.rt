@@ -1,4 +1,6 @@
 // A stored answer of the Rust: read from the standard input, and its call made again and compared with it.
+#![tactic(auto)]
+
 mod head; // head.rt: the head of a stored answer, taken apart
 mod slices; // slices.rt: parts of bytes, lent
 mod repeats; // repeats.rt: the four calls, each compared with its stored answer

@@ -1,4 +1,6 @@
 // From a coded type to its record. What a variant lacks is written as 0.
+#![tactic(auto)]
+
 ghost use Rattle.std.specs.Prelude.{◌≡◌, ◌<◌, ◌/◌, ◌%◌};
 ghost use Rattle.kinds.specs.Types.{type_code_of};
 ghost use Rattle.kinds.specs.Answers.{report_of_check};

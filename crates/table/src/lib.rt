@@ -1,4 +1,6 @@
 // The stored table: its header, and a record fetched by its number.
+#![tactic(auto)]
+
 ghost use Rattle.std.specs.Prelude.{◌≡◌, ◌≤◌, length};
 ghost use Rattle.table.specs.Table.{header_size, record_place, total_size, is_marked, header_of, record_fetched, fetched, outcome_of_fetched};
 

@@ -1,4 +1,6 @@
 // A field's bits taken from its cut, under its mask, into the output. Counted first and then written once.
+#![tactic(auto)]
+
 ghost use Rattle.std.specs.Prelude.{◌≡◌, ◌+◌, ◌*◌, ◌≤◌, length};
 ghost use Rattle.kinds.specs.Types.{bytes_for};
 ghost use Rattle.order.specs.Order.{ordered};

@@ -1,1 +1,2 @@
 // Tables of examples that the checker computes. There is no code.
+#![tactic(auto)]

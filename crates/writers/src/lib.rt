@@ -1,4 +1,6 @@
 // What each variant writes: what its source is, after what it refuses.
+#![tactic(auto)]
+
 mod variants; // variants.rt: each variant's writing
 
 pub use variants::{
