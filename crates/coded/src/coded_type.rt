@@ -9,7 +9,7 @@ use super::variants::{
 };
 use kinds::{Check, DataType, Refusal};
 
-#[derive(Drop)]
+#[derive(Clone, Copy)]
 pub struct DiagCodedType {
     pub base_datatype: DataType,
     pub type_: DiagCodedTypeVariant,
@@ -17,7 +17,7 @@ pub struct DiagCodedType {
 }
 
 // The answer of `DiagCodedType::new`.
-#[derive(Drop)]
+#[derive(Clone, Copy)]
 pub enum Built {
     Made(DiagCodedType),
     Refused(Refusal),

@@ -6,52 +6,52 @@ ghost use Rattle.coded.specs.Making.{new_min_max, outcome_of_min_max};
 use kinds::{BitLength, ByteCount, Check, Refusal};
 
 // A part of the store of masks and key names.
-#[derive(Drop)]
+#[derive(Clone, Copy)]
 pub struct Place {
     pub at: usize,
     pub len: ByteCount,
 }
 
-#[derive(Drop)]
+#[derive(Clone, Copy)]
 pub enum OptionalPlace {
     At(Place),
     Absent,
 }
 
-#[derive(Drop)]
+#[derive(Clone, Copy)]
 pub enum OptionalBitLength {
     Bits(BitLength),
     Variable,
 }
 
-#[derive(Drop)]
+#[derive(Clone, Copy)]
 pub enum Termination {
     EndOfPdu,
     Zero,
     HexFF,
 }
 
-#[derive(Drop)]
+#[derive(Clone, Copy)]
 pub enum MaxLength {
     Most(u32),
     Unlimited,
 }
 
-#[derive(Drop)]
+#[derive(Clone, Copy)]
 pub struct MinMaxLengthType {
     pub min_length: u32,
     pub max_length: MaxLength,
     pub termination: Termination,
 }
 
-#[derive(Drop)]
+#[derive(Clone, Copy)]
 pub struct StandardLengthType {
     pub bit_length: BitLength,
     pub bit_mask: OptionalPlace,
     pub condensed: bool,
 }
 
-#[derive(Drop)]
+#[derive(Clone, Copy)]
 pub enum DiagCodedTypeVariant {
     LeadingLengthInfo(BitLength),
     MinMaxLength(MinMaxLengthType),
@@ -60,7 +60,7 @@ pub enum DiagCodedTypeVariant {
 }
 
 // The answer of `MinMaxLengthType::new`.
-#[derive(Drop)]
+#[derive(Clone, Copy)]
 pub enum MinMaxBuilt {
     Made(MinMaxLengthType),
     Refused(Refusal),

@@ -49,7 +49,7 @@ fn count_met_ones(bit_mask: &[u8], bit_len: BitLength) -> BitLength
 }
 
 // How much a condensed reading gives.
-#[derive(Drop)]
+#[derive(Clone, Copy)]
 pub struct CondensedSize {
     pub bit_count: BitLength,
     pub byte_count: ByteCount,

@@ -6,7 +6,7 @@ ghost use Rattle.encodings.specs.Writing.{height, depth};
 use kinds::BitLength;
 use numerals::{high_bit, power_of_ten};
 
-#[derive(Drop)]
+#[derive(Clone, Copy)]
 pub enum Encoding {
     TwosComplement,
     OnesComplement,
@@ -15,7 +15,7 @@ pub enum Encoding {
 }
 
 // What a code tells.
-#[derive(Drop)]
+#[derive(Clone, Copy)]
 pub enum OptionalEncoding {
     Known(Encoding),
     Unknown,

@@ -13,7 +13,7 @@ use super::forms::Encoding;
 use numerals::{Signed, are_decimal, high_bit, rebase};
 
 // What bits say.
-#[derive(Drop)]
+#[derive(Clone, Copy)]
 pub enum Said {
     Number(Signed),
     DigitAboveNine,

@@ -12,7 +12,7 @@ use kinds::{BitLength, ByteCount, Check, Refusal, SLICE_LIMIT, STORE_LIMIT};
 use masks::MaskUse;
 
 // What a variant says, but for the parts of the store that it speaks of.
-#[derive(Drop)]
+#[derive(Clone, Copy)]
 pub enum Shape {
     Leading(BitLength),
     MinMax(MinMaxLengthType),

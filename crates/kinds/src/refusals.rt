@@ -8,7 +8,7 @@ use super::types::{BitLength, ByteCount};
 pub const NOT_ENOUGH_DATA: u32 = 30;
 
 // The other rows of the table of refusals, in its order.
-#[derive(Drop)]
+#[derive(Clone, Copy)]
 pub enum Refusal {
     NumericWithVariableLength,
     OddUnicodeLimits,
@@ -43,14 +43,14 @@ pub enum Refusal {
 }
 
 // The answer of a check.
-#[derive(Drop)]
+#[derive(Clone, Copy)]
 pub enum Check {
     Passed,
     Refused(Refusal),
 }
 
 // The answer of a reading.
-#[derive(Drop)]
+#[derive(Clone, Copy)]
 pub enum Reading {
     Read {
         bit_count: BitLength,
@@ -64,7 +64,7 @@ pub enum Reading {
 }
 
 // The answer of a writing.
-#[derive(Drop)]
+#[derive(Clone, Copy)]
 pub enum Writing {
     Written,
     NotEnoughData { expected: usize, actual: usize },
@@ -72,7 +72,7 @@ pub enum Writing {
 }
 
 // So many bits from a byte position on, or why there are none.
-#[derive(Drop)]
+#[derive(Clone, Copy)]
 pub enum PosInfo {
     Found {
         bit_len: BitLength,

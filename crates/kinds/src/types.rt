@@ -12,7 +12,7 @@ pub const SLICE_LIMIT: usize = 65535;
 
 pub const STORE_LIMIT: usize = 32768;
 
-#[derive(Drop)]
+#[derive(Clone, Copy)]
 pub enum DataType {
     Int32,
     UInt32,
@@ -25,15 +25,15 @@ pub enum DataType {
 }
 
 // A length in bits, as a description gives it or a reading counts it.
-#[derive(Drop)]
+#[derive(Clone, Copy)]
 pub struct BitLength(pub u32);
 
 // A length in bytes.
-#[derive(Drop)]
+#[derive(Clone, Copy)]
 pub struct ByteCount(pub usize);
 
 // What becomes of the order of a run of bytes.
-#[derive(Drop)]
+#[derive(Clone, Copy)]
 pub enum ByteOrder {
     Keep,
     ReorderPairs,

@@ -8,7 +8,7 @@ ghost use Rattle.length_field.specs.CodePlace.{data_place, leading_place};
 use kinds::{BitLength, ByteCount, ByteOrder, Check, DataType, PosInfo, Refusal};
 
 // The number in a length field.
-#[derive(Drop)]
+#[derive(Clone, Copy)]
 enum LengthInfo {
     Bytes(ByteCount),
     TooWide,

@@ -5,7 +5,7 @@ ghost use Rattle.masks.specs.Plain.{bit_of_mask, keeps, masked};
 use kinds::{BitLength, ByteCount};
 
 // Which bits a mask keeps. The others it clears.
-#[derive(Drop)]
+#[derive(Clone, Copy)]
 pub enum Kept {
     UnderOnes,
     UnderZeros,

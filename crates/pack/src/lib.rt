@@ -11,7 +11,7 @@ use masks::MaskUse;
 
 // How data are packed: the bits of a head, the data, which are the first `data_len` bytes of the input, and some equal bytes
 // as a tail. Of all this `bit_len` bits are written, from the lowest, and of the last byte no more than `last_bits`.
-#[derive(Drop)]
+#[derive(Clone, Copy)]
 pub struct Packing {
     pub bit_len: BitLength,
     pub head: usize,

@@ -9,7 +9,7 @@ use kinds::ByteCount;
 pub const RECORD_SIZE: usize = 16;
 
 // The four flags, and the bits beside them.
-#[derive(Drop)]
+#[derive(Clone, Copy)]
 pub struct Flags {
     pub high_low: bool,
     pub mask: bool,
@@ -18,7 +18,7 @@ pub struct Flags {
     pub others: u8,
 }
 
-#[derive(Drop)]
+#[derive(Clone, Copy)]
 pub struct Numbers {
     pub type_code: u8,
     pub flags: Flags,

@@ -9,25 +9,25 @@ use coded::{
 };
 use kinds::{BitLength, DataType};
 
-#[derive(Drop)]
+#[derive(Clone, Copy)]
 pub enum OptionalType {
     Known(DataType),
     Unknown,
 }
 
-#[derive(Drop)]
+#[derive(Clone, Copy)]
 pub enum OptionalTermination {
     Known(Termination),
     Unknown,
 }
 
-#[derive(Drop)]
+#[derive(Clone, Copy)]
 pub enum OptionalVariant {
     Known(DiagCodedTypeVariant),
     Malformed,
 }
 
-#[derive(Drop)]
+#[derive(Clone, Copy)]
 pub enum OptionalCoded {
     Coded(DiagCodedType),
     Malformed,

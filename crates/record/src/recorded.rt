@@ -6,7 +6,7 @@ use super::parsing::{OptionalCoded, parse};
 use coded::DiagCodedType;
 use kinds::{ByteCount, Check, Refusal};
 
-#[derive(Drop)]
+#[derive(Clone, Copy)]
 pub enum Recorded {
     Coded(DiagCodedType),
     Refused(Refusal),

@@ -2,7 +2,7 @@
 #![tactic(auto)]
 
 // How many answers were the same, and how many not.
-#[derive(Drop)]
+#[derive(Clone, Copy)]
 struct Counts {
     same: u64,
     other: u64,

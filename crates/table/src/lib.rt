@@ -12,14 +12,14 @@ use record::{OptionalCoded, RECORD_SIZE, parse, read16};
 const HEADER_SIZE: usize = 9;
 
 // What the header says: how many records there are, and how many bytes the store has.
-#[derive(Drop)]
+#[derive(Clone, Copy)]
 pub struct Header {
     pub count: usize,
     pub store_len: ByteCount,
 }
 
 // A record of the table: the coded type that it says, where it starts, and where the store is.
-#[derive(Drop)]
+#[derive(Clone, Copy)]
 pub struct Entry {
     pub coded_type: DiagCodedType,
     pub record_at: usize,
@@ -27,13 +27,13 @@ pub struct Entry {
     pub store_len: ByteCount,
 }
 
-#[derive(Drop)]
+#[derive(Clone, Copy)]
 pub enum OptionalHeader {
     Valid(Header),
     Malformed,
 }
 
-#[derive(Drop)]
+#[derive(Clone, Copy)]
 pub enum Fetched {
     Found(Entry),
     Refused(Refusal),
