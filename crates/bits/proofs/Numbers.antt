@@ -30,9 +30,9 @@ or_two (suc zero) (suc zero) ha hb = refl
 or_two (suc zero) (suc (suc b)) ha hb = omega arith
 or_two (suc (suc a)) b ha hb = omega arith
 
-pub bit_or : (a b k : ℕ) → bit (bit_or a b) k ≡ max (bit a k) (bit b k)
+pub bit-or : (a b k : ℕ) → bit (bit_or a b) k ≡ max (bit a k) (bit b k)
 unfolding bit
-bit_or a b k = ap (λ (n : ℕ). n % 2) (or_shr a b k) ∙ or_mod (a / 2 ^ k) (b / 2 ^ k) 1 ∙ or_two (a / 2 ^ k % 2) (b / 2 ^ k % 2) (bit-lt a k) (bit-lt b k)
+bit-or a b k = ap (λ (n : ℕ). n % 2) (or_shr a b k) ∙ or_mod (a / 2 ^ k) (b / 2 ^ k) 1 ∙ or_two (a / 2 ^ k % 2) (b / 2 ^ k % 2) (bit-lt a k) (bit-lt b k)
 
 pub and_two : (a b : ℕ) → a < 2 → b < 2 → bit_and a b ≡ min a b
 and_two zero b ha hb = omega arith
@@ -41,9 +41,9 @@ and_two (suc zero) (suc zero) ha hb = refl
 and_two (suc zero) (suc (suc b)) ha hb = omega arith
 and_two (suc (suc a)) b ha hb = omega arith
 
-pub bit_and : (a b k : ℕ) → bit (bit_and a b) k ≡ min (bit a k) (bit b k)
+pub bit-and : (a b k : ℕ) → bit (bit_and a b) k ≡ min (bit a k) (bit b k)
 unfolding bit
-bit_and a b k = ap (λ (n : ℕ). n % 2) (and_shr a b k) ∙ and_mod (a / 2 ^ k) (b / 2 ^ k) 1 ∙ and_two (a / 2 ^ k % 2) (b / 2 ^ k % 2) (bit-lt a k) (bit-lt b k)
+bit-and a b k = ap (λ (n : ℕ). n % 2) (and_shr a b k) ∙ and_mod (a / 2 ^ k) (b / 2 ^ k) 1 ∙ and_two (a / 2 ^ k % 2) (b / 2 ^ k % 2) (bit-lt a k) (bit-lt b k)
 
 pub bit_of_zero : (k : ℕ) → bit 0 k ≡ 0
 bit_of_zero zero = bit-zero 0

@@ -17,7 +17,7 @@ use Rattle.order.specs.Order.{ordered}
 use Rattle.order.proofs.Index.{length-ordered}
 use Rattle.kinds.proofs.Compare.{below, same}
 use Rattle.bits.specs.Bits.{bit, bit_at, packed, place, update, or_bit, or_bit_checked}
-use Rattle.bits.proofs.Numbers.{bit-lt, bit_or, bit_and, bit_not, bit_shl}
+use Rattle.bits.proofs.Numbers.{bit-lt, bit-or, bit-and, bit_not, bit_shl}
 use Rattle.bits.proofs.Bytes.{Bytes, bit_at_in, bit_at_out, packed_ext, repack}
 
 -- ---- what the code reads
@@ -103,7 +103,7 @@ pub bit-cleared : (x o k : ℕ) → o < 8 → k < 8 → bit (bit_and x (255 - (1
 bit-cleared x o k lo lk =
     let one : (1 * 2 ^ o) % 256 ≡ 1 * 2 ^ o = shl_exact 1 o 8 (omega arith) (omega arith) in
     let b = bit-lt x k in
-    bit_and x (255 - (1 * 2 ^ o) % 256) k
+    bit-and x (255 - (1 * 2 ^ o) % 256) k
     ∙ ap (min (bit x k)) (bit_not 8 ((1 * 2 ^ o) % 256) k (mod-lt _ (zero-lt-suc 255)) lk ∙ ap (λ (n : ℕ). 1 - bit n k) one ∙ ap (λ (n : ℕ). 1 - n) (bit_shl 1 o k (omega arith)))
     ∙ ⊎_elim {C = min (bit x k) (1 - cond (eqb k o) 1 0) ≡ cond (eqb k o) 0 (bit x k)} (λ h. rw (eq-eqb k o h) (omega arith)) (λ h. rw (ne_eqb k o h) (omega arith)) (same k o)
 
@@ -129,7 +129,7 @@ set-or_bit clear xs j o b v h l lo lb e =
     let here : bit_at xs i ≡ bit (get_or xs j 0) o = bit_at_in xs i (omega arith) ∙ rw (at, off) in
     rw here (set-update xs j o (bit_or b ((bit_and v 1 * 2 ^ o) % 256)) (max (cond clear 0 (bit (get_or xs j 0) o)) (v % 2)) h l lo
     (or_lt 8 b _ lb (low_at_lt v o))
-    (λ k lk. bit_or b ((bit_and v 1 * 2 ^ o) % 256) k ∙ ap₂ max (e k lk) (bit_low_at v o k lo)
+    (λ k lk. bit-or b ((bit_and v 1 * 2 ^ o) % 256) k ∙ ap₂ max (e k lk) (bit_low_at v o k lo)
     ∙ or_cases (eqb k o) (cond clear 0 (bit (get_or xs j 0) o)) (bit (get_or xs j 0) k) (v % 2)))
 
 -- `set_bit_checked` at the byte and the offset of bit i

@@ -181,12 +181,12 @@ clear_by_record_one κs args r r' e e' h h' = one_reported report_of_writing wri
 pub runtime_read_one : (κs : _) (args : _) (r r' : _) (e e' : _) → runtime-read.Learnt κs args r e → runtime-read.Learnt κs args r' e' → (◌≡◌ {A = ℕ × List ℕ × List ℕ} (e.1.1.1.1.1.0.now, e.1.1.1.1.1.1.0.now, r.now) (e'.1.1.1.1.1.0.now, e'.1.1.1.1.1.1.0.now, r'.now)) × (r.ref_ptr ≡ r'.ref_ptr)
 runtime_read_one κs args r r' e e' h h' =
     let same : ◌≡◌ {A = ℕ × List ℕ × List ℕ} (e.1.1.1.1.1.0.now, e.1.1.1.1.1.1.0.now, r.now) (e'.1.1.1.1.1.0.now, e'.1.1.1.1.1.1.0.now, r'.now) = one_counted (e.1.1.1.1.1.0.now, e.1.1.1.1.1.1.0.now, r.now) (e'.1.1.1.1.1.0.now, e'.1.1.1.1.1.1.0.now, r'.now) h.0 h'.0 in
-    (same, h.1 ∙ ap (λ (q : ℕ × List ℕ × List ℕ). place_behind (part_start (length q.2) args.1.1.1.0) args.1.1.0.ptr) same ∙ sym h'.1)
+    (same, h.1 ∙ ap (λ (q : ℕ × List ℕ × List ℕ). place_behind (part_start (length q.2) args.1.1.1.0) args.1.1.0.ref_ptr) same ∙ sym h'.1)
 
 pub runtime_read_by_record_one : (κs : _) (args : _) (r r' : _) (e e' : _) → runtime-read-by-record.Learnt κs args r e → runtime-read-by-record.Learnt κs args r' e' → (◌≡◌ {A = ℕ × List ℕ × List ℕ} (e.1.1.1.1.1.0.now, e.1.1.1.1.1.1.0.now, r.now) (e'.1.1.1.1.1.0.now, e'.1.1.1.1.1.1.0.now, r'.now)) × (r.ref_ptr ≡ r'.ref_ptr)
 runtime_read_by_record_one κs args r r' e e' h h' =
     let same : ◌≡◌ {A = ℕ × List ℕ × List ℕ} (e.1.1.1.1.1.0.now, e.1.1.1.1.1.1.0.now, r.now) (e'.1.1.1.1.1.0.now, e'.1.1.1.1.1.1.0.now, r'.now) = one_counted (e.1.1.1.1.1.0.now, e.1.1.1.1.1.1.0.now, r.now) (e'.1.1.1.1.1.0.now, e'.1.1.1.1.1.1.0.now, r'.now) h.0 h'.0 in
-    (same, h.1 ∙ ap (λ (q : ℕ × List ℕ × List ℕ). place_behind (part_start (length q.2) args.1.1.1.0) args.1.1.0.ptr) same ∙ sym h'.1)
+    (same, h.1 ∙ ap (λ (q : ℕ × List ℕ × List ℕ). place_behind (part_start (length q.2) args.1.1.1.0) args.1.1.0.ref_ptr) same ∙ sym h'.1)
 
 -- a key name: number, the bytes of the name, and where it lies
 pub length_key_name_one : (κs : _) (args : _) (r r' : _) (e e' : _) → length-key-name.Learnt κs args r e → length-key-name.Learnt κs args r' e' → (◌≡◌ {A = ℕ × List ℕ} (e.1.1.0.now, r.now) (e'.1.1.0.now, r'.now)) × (r.ref_ptr ≡ r'.ref_ptr)

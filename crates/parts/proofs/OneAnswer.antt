@@ -19,5 +19,5 @@ pub part_one : (κs : _) (args : _) (r r' : _) (e e' : _) → part.Learnt κs ar
 part_one κs args r r' e e' h h' =
     let same = h.0 ∙ sym h'.0 in (
       ap shown same,
-      h.1 ∙ ap (λ (a : Answer (List ℕ)). place_behind (part_start (length a.left) args.1.0) args.0.ptr) same ∙ sym h'.1,
+      h.1 ∙ ap (λ (a : Answer (List ℕ)). place_behind (part_start (length a.left) args.1.0) args.0.ref_ptr) same ∙ sym h'.1,
     )

@@ -1,0 +1,19 @@
+-- `bits::extract_bits` meets its contract. The loop's invariant: the result holds the first i bits.
+use Prim.Native.Nat.{ℕ, ◌-◌, ◌≤◌}
+use mathlib.Core.Path.{◌≡◌, ◌∙◌, ap₂}
+use lib.ListN.{length}
+use native.Mathlib.Omega.{arith}
+use Rattle.kinds.specs.Types.{bytes_for}
+use Rattle.order.specs.Order.{ordered}
+use Rattle.bits.specs.Bits.{bit_at, packed}
+use Rattle.bits.specs.Moves.{first, from, extracted}
+use Rattle.bits.proofs.Bytes.{bit_at_lt}
+use Rattle.bits.proofs.Steps.{first_none, first_step}
+use Rattle.bits.proofs.extract_bits.Given as goal
+
+abbrev pub invariant-loop-i : goal.invariant-loop-i
+invariant-loop-i l =
+    (l.i ≤ l.i-end) × (length l.result_bytes ≡ bytes_for l.i-end) × (l.result_bytes ≡ packed (bytes_for l.i-end) (first l.i (from l.bit_pos (bit_at (ordered l.byte_order l.data)))))
+
+abbrev pub decreases-loop-i : goal.decreases-loop-i
+decreases-loop-i l = l.i-end - l.i
