@@ -1,0 +1,9 @@
+-- The loop's invariant: the pattern is what the first j bytes make.
+use Prim.Native.Nat.{◌≤◌}
+use mathlib.Core.Path.{◌≡◌}
+use lib.ListN.{length}
+use Rattle.numerals.proofs.Bytes.{front}
+use Rattle.numerals.proofs.patterns.whole.Given as goal
+
+abbrev pub invariant-loop-j : goal.invariant-loop-j
+invariant-loop-j l = (l.j ≤ length l.bytes) × (l.pattern ≡ front l.bytes l.j)
