@@ -50,7 +50,7 @@ pub fn reads(
         &mut report,
     );
     if same_numbers(number, report, want) {
-        return check::same(&output, after);
+        return &output[..] == after;
     }
     false
 }
@@ -77,7 +77,7 @@ pub fn lends(
         return false;
     }
     let end = place + count;
-    check::same(&payload[place..end], part)
+    &payload[place..end] == part
 }
 
 // Whether an encode at byte 0 answers with a number, 0 for success, and leaves the payload and its used length so.
@@ -110,7 +110,7 @@ pub fn writes(
     if end != used_after {
         return false;
     }
-    check::same(payload, after)
+    &*payload == after
 }
 
 // Whether a clear at byte 0 of a payload that is used whole answers with a number and leaves the payload so.
@@ -126,7 +126,7 @@ pub fn clears(
     let mut report: [usize; 4] = [1; 4];
     let given = dct::dct_clear(record, store, payload, used, 0, bit_pos, &mut report);
     if same_numbers(given, report, refused(number)) {
-        return check::same(payload, after);
+        return &*payload == after;
     }
     false
 }

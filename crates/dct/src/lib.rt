@@ -1,4 +1,4 @@
-// The functions that C calls, and nothing else. Every byte pattern and every number gets an answer: nothing is required.
+// The functions that C calls, by way of `dct_c`, and nothing else. Every byte pattern and every number gets an answer: nothing is required.
 #![tactic(auto)]
 
 ghost use Rattle.std.specs.Prelude.{◌≡◌, ◌∷◌};
@@ -15,8 +15,7 @@ use kinds::{ByteCount, Check};
 use table::Fetched;
 
 // Reads the field that a record describes into the output.
-#[unsafe(no_mangle)]
-pub extern "C" fn dct_decode(
+pub fn dct_decode(
     record: &[u8],
     store: &[u8],
     payload: &[u8],
@@ -32,8 +31,7 @@ pub extern "C" fn dct_decode(
 }
 
 // Writes the input as the field that a record describes.
-#[unsafe(no_mangle)]
-pub extern "C" fn dct_encode(
+pub fn dct_encode(
     record: &[u8],
     store: &[u8],
     input: &[u8],
@@ -50,8 +48,7 @@ pub extern "C" fn dct_encode(
 }
 
 // Takes the field that a record describes back to zero.
-#[unsafe(no_mangle)]
-pub extern "C" fn dct_clear(
+pub fn dct_clear(
     record: &[u8],
     store: &[u8],
     payload: &mut [u8],
@@ -77,8 +74,7 @@ fn part_start(part_len: ByteCount, byte_pos: usize) -> usize
 }
 
 // Tells where so many bytes of the payload start, where they are in it.
-#[unsafe(no_mangle)]
-pub extern "C" fn dct_read(
+pub fn dct_read(
     record: &[u8],
     store: &[u8],
     payload: &[u8],
@@ -104,8 +100,7 @@ pub extern "C" fn dct_read(
 }
 
 // Tells where a table has the record with a number, and where its store.
-#[unsafe(no_mangle)]
-pub extern "C" fn dct_fetch(table: &[u8], number: usize, places: &mut [usize; 3]) -> u32
+pub fn dct_fetch(table: &[u8], number: usize, places: &mut [usize; 3]) -> u32
     ensures { answer (numbered result) places.new ≡ places_fetched table.now number }
 {
     match table::fetch(table, number) {
@@ -121,8 +116,7 @@ pub extern "C" fn dct_fetch(table: &[u8], number: usize, places: &mut [usize; 3]
 }
 
 // Tells the class of a number.
-#[unsafe(no_mangle)]
-pub extern "C" fn dct_class(number: u32) -> u32
+pub fn dct_class(number: u32) -> u32
     ensures { result ≡ class_letter number }
 {
     classes::class_of(number)
@@ -139,16 +133,14 @@ fn number_of(check: Check) -> u32
 }
 
 // Reads the value that bytes say, of so many bits and in the encoding with a code.
-#[unsafe(no_mangle)]
-pub extern "C" fn dct_value_read(encoding: u32, width: usize, bytes: &[u8], value: &mut i64) -> u32
+pub fn dct_value_read(encoding: u32, width: usize, bytes: &[u8], value: &mut i64) -> u32
     ensures { answer (numbered result) value.new ≡ value_read_by_code encoding width bytes.now value.old }
 {
     number_of(values::read_by_code(encoding, width, bytes, value))
 }
 
 // Writes a value to all of the bytes.
-#[unsafe(no_mangle)]
-pub extern "C" fn dct_value_write(encoding: u32, width: usize, value: i64, bytes: &mut [u8]) -> u32
+pub fn dct_value_write(encoding: u32, width: usize, value: i64, bytes: &mut [u8]) -> u32
     ensures { answer (numbered result) bytes.new ≡ value_written_by_code encoding width value bytes.old }
 {
     number_of(values::write_by_code(encoding, width, value, bytes))

@@ -1,27 +1,27 @@
 // What a line is made of, each behind a space: numbers, a minus for what is absent, and bytes in hexadecimal digits.
+use std::io;
 
-pub fn number(n: u32) {
-    io::write_all(1, b" ");
-    io::print_decimal(1, n as u64);
+pub fn number(rt: &impl Print, n: u32) -> io::Result<()> {
+    print!(rt; " {n}")
 }
 
-pub fn absent() {
-    io::write_all(1, b" -");
+pub fn absent(rt: &impl Print) -> io::Result<()> {
+    rt.write_all(b" -")
 }
 
-pub fn end() {
-    io::write_all(1, b"\n");
+pub fn end(rt: &impl Print) -> io::Result<()> {
+    rt.write_all(b"\n")
 }
 
-fn byte(byte: u8) {
-    io::print_hex(1, byte as u64, 2);
+fn byte(rt: &impl Print, byte: u8) -> io::Result<()> {
+    print!(rt; "{byte:02x}")
 }
 
 // In brackets, so that no bytes are told from nothing.
-pub fn bytes(bytes: &[u8]) {
-    io::write_all(1, b" [");
+pub fn bytes(rt: &impl Print, bytes: &[u8]) -> io::Result<()> {
+    rt.write_all(b" [")?;
     for i in 0..bytes.len() {
-        byte(bytes[i]);
+        byte(rt, bytes[i])?;
     }
-    io::write_all(1, b"]");
+    rt.write_all(b"]")
 }

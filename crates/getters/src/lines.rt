@@ -6,6 +6,7 @@ use coded::{
     OptionalBitLength, OptionalPlace, Termination,
 };
 use kinds::DataType;
+use std::io;
 
 fn termination_code(termination: Termination) -> u32 {
     match termination {
@@ -29,98 +30,100 @@ fn type_code(data_type: DataType) -> u32 {
 }
 
 // What `new` says of the limits, and where it makes them their getters.
-fn show_limits(given: MinMaxLengthType) {
+fn show_limits(rt: &impl Print, given: MinMaxLengthType) -> io::Result<()> {
     let max_length = given.max_length();
     let termination = given.termination();
     match MinMaxLengthType::new(given.min_length(), max_length, termination) {
-        MinMaxBuilt::Refused(refusal) => number(refusal.number()),
+        MinMaxBuilt::Refused(refusal) => number(rt, refusal.number()),
         MinMaxBuilt::Made(limits) => {
-            number(0);
-            number(limits.min_length());
+            number(rt, 0)?;
+            number(rt, limits.min_length())?;
             match limits.max_length() {
-                MaxLength::Most(most) => number(most),
-                MaxLength::Unlimited => absent(),
+                MaxLength::Most(most) => number(rt, most)?,
+                MaxLength::Unlimited => absent(rt)?,
             }
-            number(termination_code(limits.termination()));
+            number(rt, termination_code(limits.termination()))
         }
     }
 }
 
-fn show_part(store: &[u8], place: OptionalPlace) {
+fn show_part(rt: &impl Print, store: &[u8], place: OptionalPlace) -> io::Result<()> {
     match place {
-        OptionalPlace::At(_) => bytes(field::part_at(store, place)),
-        OptionalPlace::Absent => absent(),
+        OptionalPlace::At(_) => bytes(rt, field::part_at(store, place)),
+        OptionalPlace::Absent => absent(rt),
     }
 }
 
 // The variant's code, and what it holds.
-fn show_type(type_: DiagCodedTypeVariant, store: &[u8]) {
+fn show_type(rt: &impl Print, type_: DiagCodedTypeVariant, store: &[u8]) -> io::Result<()> {
     match type_ {
         DiagCodedTypeVariant::LeadingLengthInfo(bits) => {
-            number(1);
-            number(bits.number());
+            number(rt, 1)?;
+            number(rt, bits.number())
         }
         DiagCodedTypeVariant::MinMaxLength(limits) => {
-            number(2);
-            show_limits(limits);
+            number(rt, 2)?;
+            show_limits(rt, limits)
         }
         DiagCodedTypeVariant::StandardLength(standard) => {
             let bit_length = standard.bit_length;
             let bit_mask = standard.bit_mask;
-            number(3);
-            number(bit_length.number());
-            number(standard.condensed as u32);
-            show_part(store, bit_mask);
+            number(rt, 3)?;
+            number(rt, bit_length.number())?;
+            number(rt, standard.condensed as u32)?;
+            show_part(rt, store, bit_mask)
         }
         DiagCodedTypeVariant::ParamLengthInfo(name) => {
-            number(4);
-            show_part(store, OptionalPlace::At(name));
+            number(rt, 4)?;
+            show_part(rt, store, OptionalPlace::At(name))
         }
     }
 }
 
 // `length_key_place` tells whether there is a name, and `length_key_name` has it and a number.
-fn show_key_name(coded_type: DiagCodedType, store: &[u8]) {
+fn show_key_name(rt: &impl Print, coded_type: DiagCodedType, store: &[u8]) -> io::Result<()> {
     let mut refusal = 0;
     let name = calls::length_key_name(coded_type, store, &mut refusal);
-    number(refusal);
+    number(rt, refusal)?;
     match coded_type.length_key_place() {
-        OptionalPlace::At(_) => bytes(name),
-        OptionalPlace::Absent => absent(),
+        OptionalPlace::At(_) => bytes(rt, name),
+        OptionalPlace::Absent => absent(rt),
     }
 }
 
-fn show_getters(coded_type: DiagCodedType, store: &[u8]) {
-    number(type_code(coded_type.base_datatype()));
-    number(coded_type.is_high_low_byte_order as u32);
+fn show_getters(rt: &impl Print, coded_type: DiagCodedType, store: &[u8]) -> io::Result<()> {
+    number(rt, type_code(coded_type.base_datatype()))?;
+    number(rt, coded_type.is_high_low_byte_order as u32)?;
     match coded_type.bit_len() {
-        OptionalBitLength::Bits(bits) => number(bits.number()),
-        OptionalBitLength::Variable => absent(),
+        OptionalBitLength::Bits(bits) => number(rt, bits.number())?,
+        OptionalBitLength::Variable => absent(rt)?,
     }
-    show_key_name(coded_type, store);
-    show_type(coded_type.type_(), store);
+    show_key_name(rt, coded_type, store)?;
+    show_type(rt, coded_type.type_(), store)
 }
 
-fn show_built(built: Built, store: &[u8]) {
+fn show_built(rt: &impl Print, built: Built, store: &[u8]) -> io::Result<()> {
     match built {
-        Built::Refused(refusal) => number(refusal.number()),
+        Built::Refused(refusal) => number(rt, refusal.number())?,
         Built::Made(coded_type) => {
-            number(0);
-            show_getters(coded_type, store);
+            number(rt, 0)?;
+            show_getters(rt, coded_type, store)?;
         }
     }
-    end();
+    end(rt)
 }
 
-pub fn show(said: DiagCodedType, store: &[u8]) {
+pub fn show(rt: &impl Print, said: DiagCodedType, store: &[u8]) -> io::Result<()> {
     let base_datatype = said.base_datatype();
     let type_ = said.type_();
     show_built(
+        rt,
         DiagCodedType::new(base_datatype, type_, said.is_high_low_byte_order),
         store,
-    );
+    )?;
     show_built(
+        rt,
         DiagCodedType::new_high_low_byte_order(base_datatype, type_),
         store,
-    );
+    )
 }

@@ -5,35 +5,53 @@ mod columns; // columns.rt: what a line is made of
 mod lines; // lines.rt: the lines of what a record says
 
 use record::OptionalCoded;
+use std::io;
+use std::io::{ErrorKind, Read};
 
-fn show(bytes: &[u8], store: &[u8]) {
+fn show(rt: &impl Print, bytes: &[u8], store: &[u8]) -> io::Result<()> {
     match record::parse(bytes) {
-        OptionalCoded::Malformed => columns::end(),
-        OptionalCoded::Coded(coded_type) => lines::show(coded_type, store),
+        OptionalCoded::Malformed => columns::end(rt),
+        OptionalCoded::Coded(coded_type) => lines::show(rt, coded_type, store),
+    }
+}
+
+// Whether all of the buffer came before the input ended.
+fn filled<R: Read>(input: &mut R, buffer: &mut [u8]) -> io::Result<bool> {
+    match input.read_exact(buffer) {
+        Ok(()) => Ok(true),
+        Err(error) => {
+            if error.kind() == ErrorKind::UnexpectedEof {
+                Ok(false)
+            } else {
+                Err(error)
+            }
+        }
     }
 }
 
 // Whether a record and its store came, and then their lines are printed.
-fn shown() -> bool {
+fn shown<R: Read>(rt: &impl Print, input: &mut R) -> io::Result<bool> {
     let mut bytes = [0u8; 16];
     let mut store = [0u8; 32];
-    if io::read_full(0, &mut bytes) < 16 {
-        return false;
+    if !filled(input, &mut bytes)? {
+        return Ok(false);
     }
-    if io::read_full(0, &mut store) < 32 {
-        return false;
+    if !filled(input, &mut store)? {
+        return Ok(false);
     }
-    show(&bytes, &store);
-    true
+    show(rt, &bytes, &store)?;
+    Ok(true)
 }
 
-fn main() {
+fn main(rt: HostRuntime) -> io::Result<()> {
+    let mut input = rt.stdin();
     // A proved loop has to end, and nothing says that the input does.
     let mut turns = u64::MAX;
     while turns > 0 {
         turns -= 1;
-        if !shown() {
+        if !shown(&rt, &mut input)? {
             break;
         }
     }
+    Ok(())
 }

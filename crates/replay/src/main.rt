@@ -1,6 +1,9 @@
 // Makes the calls of stored answers again: reads the answers from the standard input and prints how many come out the same.
 #![tactic(auto)]
 
+use std::io;
+use std::io::Read;
+
 // How many answers were the same, and how many not.
 #[derive(Clone, Copy)]
 struct Counts {
@@ -8,13 +11,13 @@ struct Counts {
     other: u64,
 }
 
-fn counted() -> Counts {
+fn counted<R: Read>(input: &mut R) -> io::Result<Counts> {
     let mut same: u64 = 0;
     let mut other: u64 = 0;
     // A proved loop has to end, and nothing says that the input does.
     let mut turns = u64::MAX;
     while turns > 0 {
-        let verdict = stored_answers::next();
+        let verdict = stored_answers::next(input)?;
         if verdict == stored_answers::END {
             break;
         }
@@ -28,16 +31,15 @@ fn counted() -> Counts {
             }
         }
     }
-    Counts {
+    Ok(Counts {
         same: same,
         other: other,
-    }
+    })
 }
 
-fn main() {
-    let counts = counted();
-    io::print_decimal(1, counts.same);
-    io::write_all(1, b" the same, ");
-    io::print_decimal(1, counts.other);
-    io::write_all(1, b" not\n");
+fn main(rt: HostRuntime) -> io::Result<()> {
+    let counts = counted(&mut rt.stdin())?;
+    let same = counts.same;
+    let other = counts.other;
+    println!(rt; "{same} the same, {other} not")
 }

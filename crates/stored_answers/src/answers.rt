@@ -1,7 +1,10 @@
-// A stored answer: read from the standard input, taken apart, and handed to its call.
+// A stored answer: read from the input, taken apart, and handed to its call.
+use super::filling::read_full;
 use super::head::wide;
 use super::repeats;
 use super::slices::{part, part_mut};
+use std::io;
+use std::io::Read;
 
 pub const END: u8 = 0;
 
@@ -40,28 +43,29 @@ fn replayed(head: [u8; 21], body: &[u8; 1036], copy: &mut [u8]) -> bool {
 }
 
 // Whether all of a body came.
-fn came(head: [u8; 21], body: &mut [u8]) -> bool {
+fn came<R: Read>(input: &mut R, head: [u8; 21], body: &mut [u8]) -> io::Result<bool> {
     let length = 16 + wide(head[2]) + wide(head[3]) + wide(head[4]) + wide(head[5]);
-    io::read_full(0, part_mut(body, 0, length)) == length
+    let got = read_full(input, part_mut(body, 0, length))?;
+    Ok(got == length)
 }
 
 // Where an answer is cut off, nothing says where the next would start: the list ends there.
-pub fn next() -> u8 {
+pub fn next<R: Read>(input: &mut R) -> io::Result<u8> {
     let mut head = [0u8; 21];
-    let got = io::read_full(0, &mut head);
+    let got = read_full(input, &mut head)?;
     if got == 0 {
-        return END;
+        return Ok(END);
     }
     if got < 21 {
-        return CUT;
+        return Ok(CUT);
     }
     let mut body: [u8; 1036] = [0; 1036];
-    if !came(head, &mut body) {
-        return CUT;
+    if !came(input, head, &mut body)? {
+        return Ok(CUT);
     }
     let mut copy = body;
     if replayed(head, &body, &mut copy) {
-        return SAME;
+        return Ok(SAME);
     }
-    OTHER
+    Ok(OTHER)
 }

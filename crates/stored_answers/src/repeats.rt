@@ -14,10 +14,10 @@ fn left_as_stored(bytes: &[u8], before: &[u8], after: &[u8]) -> bool {
     if before.len() < front {
         return false;
     }
-    if !check::same(&bytes[0..front], after) {
+    if &bytes[0..front] != after {
         return false;
     }
-    check::same(&bytes[front..], &before[front..])
+    &bytes[front..] == &before[front..]
 }
 
 pub fn decodes(head: [u8; 21], record: &[u8], store: &[u8], payload: &[u8], after: &[u8]) -> bool {
@@ -122,5 +122,5 @@ pub fn reads(head: [u8; 21], record: &[u8], store: &[u8], payload: &[u8], after:
         return false;
     }
     let end = place + count;
-    check::same(&payload[place..end], after)
+    &payload[place..end] == after
 }

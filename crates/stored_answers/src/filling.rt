@@ -1,0 +1,28 @@
+// A buffer, filled from the input.
+ghost use Rattle.std.specs.Prelude.{◌≤◌, length, IfOk};
+
+use std::io;
+use std::io::{ErrorKind, Read};
+
+// Reads until the buffer is full or the input ends, and returns how many bytes came. A read that a signal interrupts is tried again.
+pub fn read_full<R: Read>(input: &mut R, buffer: &mut [u8]) -> io::Result<usize>
+    ensures { IfOk result (λ n. n ≤ length buffer.new) }
+{
+    let mut done = 0;
+    // A proved loop has to end, and nothing says that signals do.
+    for _ in 0..u64::MAX {
+        if done >= buffer.len() {
+            break;
+        }
+        match input.read(&mut buffer[done..]) {
+            Ok(0) => break,
+            Ok(n) => done += n,
+            Err(error) => {
+                if error.kind() != ErrorKind::Interrupted {
+                    return Err(error);
+                }
+            }
+        }
+    }
+    Ok(done)
+}
