@@ -52,7 +52,7 @@ use Rattle.coded.proofs.variants.MinMaxLengthType.termination.Reads as terminati
 use Rattle.coded.proofs.coded_type.DiagCodedType.new.Reads as new
 use Rattle.coded.proofs.coded_type.DiagCodedType.new_high_low_byte_order.Reads as new-high-low
 use Rattle.coded.proofs.coded_type.DiagCodedType.base_datatype.Reads as base-datatype
-use Rattle.coded.proofs.coded_type.DiagCodedType.type◌.Reads as type
+use Rattle.coded.proofs.coded_type.DiagCodedType.type_.Reads as type
 use Rattle.coded.proofs.coded_type.DiagCodedType.bit_len.Reads as bit-len
 use Rattle.coded.proofs.coded_type.DiagCodedType.length_key_place.Reads as length-key-place
 use Rattle.record.proofs.coded_by_record.Reads as coded_by_record
