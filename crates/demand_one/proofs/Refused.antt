@@ -16,7 +16,7 @@ use Rattle.kinds.specs.declared.refusals.Refusal.TheVariants.{OutputLacksRoom, N
 use Rattle.kinds.specs.declared.refusals.Check.{Check}
 use Rattle.kinds.specs.Types.{is_byte_type, is_unicode_type}
 use Rattle.kinds.specs.Slices.{saturating_sum, cut}
-use Rattle.kinds.specs.Answers.{numbered, short, wrote, read}
+use Rattle.kinds.specs.Answers.{numbered, wrote, read}
 use Rattle.kinds.specs.Outcomes.{rule, first_among, Outcome, gives, lacks, refuses, after, unless_short, answer}
 use Rattle.kinds.specs.Refusals.{bit_position_refusal}
 use Rattle.kinds.proofs.Compare.{below, same}

@@ -2,15 +2,12 @@
 -- contract, which the toolchain reads from the function's clauses and proves of them: of the lifetimes, of the arguments, of a result, and of
 -- the parameters at exit. So a contract that leaves something open breaks its theorem here.
 use mathlib.Core.Path.{◌≡◌, refl, sym, ap, ◌∙◌}
-use mathlib.Core.Bool.{Bool, cond}
+use mathlib.Core.Bool.{cond}
 use mathlib.Core.List.{List, ◌∷◌}
 use Prim.Native.Nat.{ℕ}
 use lib.ListN.{length, get_or, drop}
 use lib.Dec.{eqb}
 use lib.IntN.{ℤ}
-use Rattle.kinds.specs.declared.types.DataType.{DataType}
-use Rattle.kinds.specs.declared.types.BitLength.{BitLength}
-use Rattle.kinds.specs.declared.types.ByteCount.{ByteCount}
 use Rattle.kinds.specs.declared.refusals.Refusal.{Refusal}
 use Rattle.kinds.specs.declared.refusals.Refusal.TheVariants.{MalformedTable}
 use Rattle.kinds.specs.declared.refusals.Check.{Check}
@@ -23,12 +20,8 @@ use Rattle.kinds.specs.Answers.{number_in, numbered, report_of_check, report_of_
 use Rattle.kinds.specs.Slices.{place_behind}
 use Rattle.kinds.specs.Outcomes.{Outcome, gives, lacks, refuses, Answer, answer}
 use Rattle.kinds.proofs.Rows.{refusal_of, never_0, never_30, refusal_told}
-use Rattle.coded.specs.declared.variants.MaxLength.{MaxLength}
-use Rattle.coded.specs.declared.variants.Termination.{Termination}
 use Rattle.coded.specs.declared.variants.MinMaxBuilt.{MinMaxBuilt}
 use Rattle.coded.specs.declared.variants.MinMaxBuilt.TheVariants as min_max
-use Rattle.coded.specs.declared.variants.DiagCodedTypeVariant.{DiagCodedTypeVariant}
-use Rattle.coded.specs.declared.coded_type.DiagCodedType.{DiagCodedType}
 use Rattle.coded.specs.declared.coded_type.Built.{Built}
 use Rattle.coded.specs.declared.coded_type.Built.TheVariants as built
 use Rattle.coded.specs.Making.{outcome_of_min_max, outcome_of_coded_type}

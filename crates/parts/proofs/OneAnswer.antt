@@ -1,7 +1,7 @@
 -- No second answer fits the contract of `part`: number, report, bytes and place follow from the arguments. `Learnt` is what a caller
 -- learns of the contract, which the toolchain reads from the function's clauses.
 use mathlib.Core.Path.{◌≡◌, sym, ap, ◌∙◌}
-use mathlib.Core.List.{List, ◌∷◌}
+use mathlib.Core.List.{List}
 use Prim.Native.Nat.{ℕ}
 use lib.ListN.{length, drop}
 use Rattle.kinds.specs.Answers.{number_in}

@@ -1,14 +1,11 @@
 -- `bits::extract_bits` meets its contract. The loop's invariant: the result holds the first i bits.
-use Prim.Native.Nat.{ℕ, ◌-◌, ◌≤◌}
-use mathlib.Core.Path.{◌≡◌, ◌∙◌, ap₂}
+use Prim.Native.Nat.{◌-◌, ◌≤◌}
+use mathlib.Core.Path.{◌≡◌}
 use lib.ListN.{length}
-use native.Mathlib.Omega.{arith}
 use Rattle.kinds.specs.Types.{bytes_for}
 use Rattle.order.specs.Order.{ordered}
 use Rattle.bits.specs.Bits.{bit_at, packed}
-use Rattle.bits.specs.Moves.{first, from, extracted}
-use Rattle.bits.proofs.Bytes.{bit_at_lt}
-use Rattle.bits.proofs.Steps.{first_none, first_step}
+use Rattle.bits.specs.Moves.{first, from}
 use Rattle.bits.proofs.extract_bits.Given as goal
 
 abbrev pub invariant-loop-i : goal.invariant-loop-i

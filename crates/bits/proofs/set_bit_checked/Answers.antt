@@ -1,5 +1,5 @@
 -- `bits::set_bit_checked` meets its contract.
-use Rattle.std.proofs.Common.{◌≡◌, get_or, inl, inr, rules}
+use Rattle.std.proofs.Common.{get_or, inl, inr, rules}
 use borrow.Author.Tests.{lt-ltb}
 use Rattle.bits.proofs.Stores.{set-or_bit, cleared}
 use Rattle.bits.proofs.set_bit_checked.Goals as goal

@@ -1,11 +1,8 @@
 -- `bits::zero` meets its contract. The loop's invariant: the first i bytes are zeros.
-use Prim.Native.Nat.{ℕ, ◌≤◌, ◌-◌}
-use mathlib.Core.Path.{◌≡◌, ◌∙◌}
-use mathlib.Core.List.{List, ◌++◌, append-nil}
-use lib.ListN.{length, drop, replicate, length-set}
-use lib.Seq.{drop-length}
-use native.Mathlib.Omega.{arith}
-use borrow.Author.Fill.{fill_none, fill_more}
+use Prim.Native.Nat.{◌≤◌, ◌-◌}
+use mathlib.Core.Path.{◌≡◌}
+use mathlib.Core.List.{◌++◌}
+use lib.ListN.{length, drop, replicate}
 use Rattle.bits.proofs.zero.Given as goal
 
 abbrev pub invariant-loop-i : goal.invariant-loop-i

@@ -1,8 +1,6 @@
 -- `order::reorder_pairs` meets its contract. The loop's invariant: the first i pairs are swapped.
-use Prim.Native.Nat.{◌-◌, ◌≤◌}
 use native.Mathlib.Omega.{arith}
-use lib.ListN.{length-set}
-use Rattle.order.proofs.Exchange.{Paired, paired_none, paired_more, paired_done}
+use Rattle.order.proofs.Exchange.{paired_done}
 use Rattle.order.proofs.reorder_pairs.Goals as goal
 
 pub returns : goal.returns

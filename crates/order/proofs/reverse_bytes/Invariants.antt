@@ -1,9 +1,6 @@
 -- `order::reverse_bytes` meets its contract. The loop's invariant: the i outermost pairs are exchanged.
 use Prim.Native.Nat.{◌-◌, ◌/◌, ◌≤◌}
-use mathlib.Core.Path.{refl}
-use native.Mathlib.Omega.{arith}
-use lib.ListN.{length, length-set}
-use Rattle.order.proofs.Exchange.{Mirrored, mirrored_none, mirrored_more, mirrored_done}
+use Rattle.order.proofs.Exchange.{Mirrored}
 use Rattle.order.proofs.reverse_bytes.Given as goal
 
 abbrev pub invariant-loop-i : goal.invariant-loop-i
