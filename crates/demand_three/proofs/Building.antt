@@ -20,7 +20,7 @@ use Rattle.ownership.proofs.Effects.{written_in, imprint, left}
 use Rattle.ownership.proofs.Laid.{Inside, bit_at-zeros}
 use Rattle.ownership.proofs.Writes.{left_zero, imprint_none, length_written_in, bytes_written_in, write_law}
 use Rattle.ownership.proofs.Permutations.{total, total_permuted}
-use Rattle.demand_three.specs.Changing.{Placed, cut_of, own, Way, blank, message, Succeeds, Assignment, write_assignment, build, AllSucceed, accepted, all_accepted, all_lent, disjoint}
+use Rattle.demand_three.specs.Changing.{Placed, cut_of, own, Way, blank, Succeeds, Assignment, build, AllSucceed, accepted, all_accepted, all_lent, disjoint}
 use Rattle.demand_three.proofs.Calls.{Taken, bits_of, writable}
 use Rattle.demand_three.proofs.Following.{Follows, taken_by, writes_done}
 use Rattle.demand_three.proofs.Owners.{taken, refusing, first_passes, owners, Fitting, fitting, fitting_permuted}

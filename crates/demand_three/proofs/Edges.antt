@@ -5,10 +5,9 @@ use mathlib.Core.Logic.{⊎_elim}
 use mathlib.Core.Bool.{true, cond}
 use mathlib.Core.List.Permᴰ
 use mathlib.Core.List.{List, [], ◌∷◌, ◌++◌}
-use Prim.Native.Nat.{ℕ, zero, suc, ◌+◌, ◌≤◌, ◌<◌}
+use Prim.Native.Nat.{ℕ, zero, suc, ◌<◌}
 use native.Mathlib.Omega.{arith}
-use lib.ListN.{length, get_or, drop, replicate, length-replicate}
-use lib.Dec.{leb}
+use lib.ListN.{get_or, drop, replicate, length-replicate}
 use Rattle.kinds.specs.Answers.{read}
 use Rattle.kinds.specs.Outcomes.{answer}
 use Rattle.kinds.proofs.Compare.{same}
@@ -24,7 +23,7 @@ use Rattle.cutout.specs.CutOut.{cleared, readied}
 use Rattle.payload.specs.Writing.{spliced, in_cut_out, grown, writing}
 use Rattle.calls.specs.Calls.{by_record, encoded}
 use Rattle.ownership.specs.Ownership.{footprint, owns}
-use Rattle.demand_three.specs.Changing.{Exact, whole_or_short, apart_below, field_way, placed_as, coded_as, Located, record_way, message, Assignment, with, build, all_accepted, all_lent, apart_from, disjoint, Premises, Changed, changed}
+use Rattle.demand_three.specs.Changing.{Exact, whole_or_short, apart_below, field_way, placed_as, coded_as, Located, record_way, message, Assignment, with, all_accepted, all_lent, apart_from, disjoint, Premises, Changed, changed}
 use Rattle.demand_three.proofs.Ways.{demand_3}
 
 -- a record of StandardLength: type, flags, bit length, and place and length of its mask

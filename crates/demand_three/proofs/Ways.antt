@@ -1,6 +1,6 @@
 -- Demand 3 is proved: the three ways to call follow the field layer.
 use mathlib.Core.Path.{◌≡◌, refl, sym, ap, ◌∙◌}
-use mathlib.Core.Bool.{true, false, true≢false}
+use mathlib.Core.Bool.{true, true≢false}
 use mathlib.Core.List.{List, []}
 use Prim.Native.Nat.{ℕ, ◌≤◌}
 use native.Mathlib.Omega.{arith}
@@ -9,7 +9,7 @@ use lib.Dec.{ltb}
 use borrow.Author.Tests.{ltb-false, le-ltb, leb-true}
 use Rattle.kinds.specs.declared.refusals.Refusal.TheVariants.{SliceTooLong}
 use Rattle.kinds.specs.declared.refusals.Check.TheVariants.{Passed}
-use Rattle.kinds.specs.Outcomes.{Outcome, gives, lacks, refuses, following, after, Answer}
+use Rattle.kinds.specs.Outcomes.{Outcome, gives, lacks, refuses, following, after}
 use Rattle.kinds.proofs.Outcomes.{rule_passed, following-after}
 use Rattle.kinds.proofs.Rows.{never_0}
 use Rattle.coded.specs.declared.variants.StandardLengthType.{StandardLengthType}
@@ -26,8 +26,8 @@ use Rattle.writers.specs.Shapes.{field_encoding}
 use Rattle.clear.specs.Clear.{field_clearing}
 use Rattle.described.specs.Described.{described}
 use Rattle.calls.specs.Calls.{Description, by_type, by_record, record_bytes, called, decoded, encoded, cleared_field}
-use Rattle.demand_three.specs.Changing.{Placed, Way, field_at, field_way, standard_length, placed_as, coded_as, Located, call_way, type_way, record_way, zeros, accepted, Demand3}
-use Rattle.demand_three.proofs.Calls.{fine, none_before, Accepted, accepted_parts}
+use Rattle.demand_three.specs.Changing.{Placed, field_way, standard_length, placed_as, coded_as, Located, call_way, type_way, record_way, zeros, accepted, Demand3}
+use Rattle.demand_three.proofs.Calls.{fine, none_before, accepted_parts}
 use Rattle.demand_three.proofs.Following.{Lent, Follows}
 use Rattle.demand_three.proofs.Changed.{demand_3_of}
 
