@@ -52,14 +52,15 @@ module _ (mask : List ℕ) (len : ℕ) where
   counted = bytes_for (condensed_count mask len)
 
   abbrev pub filled : ℕ
-  filled = bytes_for (ones_met mask len)
+  filled = bytes_for (ones_below (front_bit mask (bytes_for len)) len)
 
   -- what is gathered into so many bytes is what a condensed reading gives
   pub condensed-packed : (field : ℕ → ℕ) → packed (bytes_left counted filled) (bits_of (picked mask len field)) ≡ condensed mask len field
   unfolding condensed
   condensed-packed field =
+      let many = length-gathered (front_bit mask (bytes_for len)) field (bits_front mask (bytes_for len)) len in
       sym
-      (ap (λ (n : ℕ). drop_below counted (bytes_for n) (packed counted (bits_of (picked mask len field)))) (length-picked field)
+      (ap (λ (n : ℕ). drop_below counted (bytes_for n) (packed counted (bits_of (picked mask len field)))) many
       ∙ drop_below-packed counted filled (bits_of (picked mask len field)))
 
   pub length-condensed : (field : ℕ → ℕ) → length (condensed mask len field) ≡ bytes_left counted filled
