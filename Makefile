@@ -8,7 +8,7 @@ help: ## this list
 bench: ## proves and runs the bench, a line for each case (some minutes at first, then seconds)
 	@./bench
 
-test: ## the gate, .ci/run: every proof, every wrong edit, every test (fifteen to thirty minutes)
+test: ## the gate, .ci/run: every proof, every wrong edit, every test (an hour at first, then some ten minutes)
 	@.ci/run
 
 bindings: ## builds the bindings for Rust and Python and tests them
