@@ -1,132 +1,119 @@
-// What a call answers, beside what it should: number, bit count, byte count, expected and actual, every byte, and the used length.
+// What the calls give, beside what they should.
+use super::fields::Field;
 
-pub fn gave(bit_count: usize, byte_count: usize) -> [usize; 5] {
-    [0, bit_count, byte_count, 0, 0]
+// What a call should answer, but for the bytes.
+#[derive(Clone, Copy)]
+pub enum Want {
+    Read { bits: usize, bytes: usize },
+    Written,
+    Short { expected: usize, actual: usize },
+    Refused(u32),
 }
 
-pub fn refused(number: usize) -> [usize; 5] {
-    [number, 0, 0, 0, 0]
+impl Want {
+    // The number, and the report: bit count, byte count, expected and actual.
+    fn numbers(self) -> (u32, [usize; 4]) {
+        match self {
+            Want::Read { bits, bytes } => (0, [bits, bytes, 0, 0]),
+            Want::Written => (0, [0; 4]),
+            Want::Short { expected, actual } => (30, [0, 0, expected, actual]),
+            Want::Refused(number) => (number, [0; 4]),
+        }
+    }
 }
 
-pub fn short(expected: usize, actual: usize) -> [usize; 5] {
-    [30, 0, 0, expected, actual]
-}
+// What a report holds before a call, so that one left unwritten shows.
+const UNWRITTEN: [usize; 4] = [1; 4];
 
-fn same_numbers(number: u32, report: [usize; 4], want: [usize; 5]) -> bool {
-    if number as usize != want[0] {
-        return false;
+impl Field<'_> {
+    // Whether a decode into four bytes EE answers so and leaves these bytes.
+    pub fn reads(&self, payload: &[u8], want: Want, after: &[u8; 4]) -> bool {
+        let mut output = [0xEE; 4];
+        let mut report = UNWRITTEN;
+        let number = dct::dct_decode(
+            &self.record(),
+            self.mask,
+            payload,
+            self.byte_pos,
+            self.bit_pos,
+            &mut output,
+            &mut report,
+        );
+        (number, report) == want.numbers() && output == *after
     }
-    if report[0] != want[1] {
-        return false;
-    }
-    if report[1] != want[2] {
-        return false;
-    }
-    if report[2] != want[3] {
-        return false;
-    }
-    report[3] == want[4]
-}
 
-// Whether a decode into an output of four bytes EE reports what it should and leaves the output so.
-pub fn reads(
-    record: &[u8],
-    store: &[u8],
-    payload: &[u8],
-    byte_pos: usize,
-    bit_pos: usize,
-    want: [usize; 5],
-    after: &[u8],
-) -> bool {
-    let mut output: [u8; 4] = [0xEE; 4];
-    let mut report: [usize; 4] = [1; 4];
-    let number = dct::dct_decode(
-        record,
-        store,
-        payload,
-        byte_pos,
-        bit_pos,
-        &mut output,
-        &mut report,
-    );
-    if same_numbers(number, report, want) {
-        return &output[..] == after;
+    // Whether a runtime read of so many bytes answers so and tells of this part of the payload.
+    pub fn lends(&self, payload: &[u8], byte_count: usize, want: Want, part: &[u8]) -> bool {
+        let mut place = 1;
+        let mut report = UNWRITTEN;
+        let number = dct::dct_read(
+            &self.record(),
+            self.mask,
+            payload,
+            self.byte_pos,
+            byte_count,
+            &mut place,
+            &mut report,
+        );
+        let [_, count, _, _] = report;
+        let lent = payload.get(place..).and_then(|rest| rest.get(..count));
+        (number, report) == want.numbers() && lent == Some(part)
     }
-    false
-}
 
-// Whether a runtime read at byte 0 reports what it should, and the part that it tells of is this.
-pub fn lends(
-    record: &[u8],
-    payload: &[u8],
-    byte_count: usize,
-    want: [usize; 5],
-    part: &[u8],
-) -> bool {
-    let mut place = 1;
-    let mut report: [usize; 4] = [1; 4];
-    let number = dct::dct_read(record, b"", payload, 0, byte_count, &mut place, &mut report);
-    if !same_numbers(number, report, want) {
-        return false;
+    // The used length after an encode, if it answers so.
+    fn encoded(&self, input: &[u8], payload: &mut [u8], used: usize, want: Want) -> Option<usize> {
+        let mut end = used;
+        let mut report = UNWRITTEN;
+        let number = dct::dct_encode(
+            &self.record(),
+            self.mask,
+            input,
+            payload,
+            &mut end,
+            self.byte_pos,
+            self.bit_pos,
+            &mut report,
+        );
+        ((number, report) == want.numbers()).then_some(end)
     }
-    if payload.len() < place {
-        return false;
-    }
-    let count = report[1];
-    if payload.len() - place < count {
-        return false;
-    }
-    let end = place + count;
-    &payload[place..end] == part
-}
 
-// Whether an encode at byte 0 answers with a number, 0 for success, and leaves the payload and its used length so.
-pub fn writes(
-    record: &[u8],
-    store: &[u8],
-    input: &[u8],
-    payload: &mut [u8],
-    used: usize,
-    bit_pos: usize,
-    number: usize,
-    used_after: usize,
-    after: &[u8],
-) -> bool {
-    let mut end = used;
-    let mut report: [usize; 4] = [1; 4];
-    let given = dct::dct_encode(
-        record,
-        store,
-        input,
-        payload,
-        &mut end,
-        0,
-        bit_pos,
-        &mut report,
-    );
-    if !same_numbers(given, report, refused(number)) {
-        return false;
+    // Whether an encode into a payload that is used whole answers so and leaves these bytes.
+    pub fn writes<const N: usize>(
+        &self,
+        input: &[u8],
+        before: &[u8; N],
+        want: Want,
+        after: &[u8; N],
+    ) -> bool {
+        let mut payload = *before;
+        self.encoded(input, &mut payload, N, want) == Some(N) && payload == *after
     }
-    if end != used_after {
-        return false;
-    }
-    &*payload == after
-}
 
-// Whether a clear at byte 0 of a payload that is used whole answers with a number and leaves the payload so.
-pub fn clears(
-    record: &[u8],
-    store: &[u8],
-    payload: &mut [u8],
-    bit_pos: usize,
-    number: usize,
-    after: &[u8],
-) -> bool {
-    let used = payload.len();
-    let mut report: [usize; 4] = [1; 4];
-    let given = dct::dct_clear(record, store, payload, used, 0, bit_pos, &mut report);
-    if same_numbers(given, report, refused(number)) {
-        return &*payload == after;
+    // Whether an encode into bytes EE of which none is used answers so, and leaves these bytes and so many of them used.
+    pub fn appends<const N: usize>(
+        &self,
+        input: &[u8],
+        want: Want,
+        used: usize,
+        after: &[u8; N],
+    ) -> bool {
+        let mut payload = [0xEE; N];
+        self.encoded(input, &mut payload, 0, want) == Some(used) && payload == *after
     }
-    false
+
+    // Whether a clear in a payload that is used whole answers so and leaves these bytes.
+    pub fn clears<const N: usize>(&self, before: &[u8; N], want: Want, after: &[u8; N]) -> bool {
+        let mut payload = *before;
+        let mut report = UNWRITTEN;
+        let number = dct::dct_clear(
+            &self.record(),
+            self.mask,
+            &mut payload,
+            N,
+            self.byte_pos,
+            self.bit_pos,
+            &mut report,
+        );
+        (number, report) == want.numbers() && payload == *after
+    }
 }

@@ -1,6 +1,6 @@
 -- Stores of one byte as changes of one bit: what `bit_at` reads and `set_bit_checked` writes.
 use mathlib.Core.Path.{◌≡◌, refl, sym, ap, ap₂, ◌∙◌}
-use mathlib.Core.Logic.{◌⊎◌, inl, inr, ⊎_elim}
+use mathlib.Core.Logic.{⊎_elim}
 use mathlib.Core.Bool.{Bool, true, false, cond}
 use mathlib.Core.List.{List, [], ◌∷◌}
 use Prim.Native.Nat.{ℕ, zero, suc, ◌-◌, ◌*◌, ◌/◌, ◌%◌, ◌^◌, ◌<◌, min, max}
@@ -11,12 +11,12 @@ use lib.Seq.{get_or-set_same, get_or-set_other}
 use lib.Dec.{eqb}
 use lib.Bits.{bit_or, bit_and, or_lt, and_mask}
 use lib.Pow.{shl_exact}
-use borrow.Author.Tests.{lt-ltb, eq-eqb, ne_eqb}
+use borrow.Author.Tests.{eq-eqb, ne_eqb}
 use Rattle.kinds.specs.declared.types.ByteOrder.{ByteOrder}
 use Rattle.order.specs.Order.{ordered}
 use Rattle.order.proofs.Index.{length-ordered}
 use Rattle.kinds.proofs.Compare.{below, same}
-use Rattle.bits.specs.Bits.{bit, bit_at, packed, place, update, or_bit, or_bit_checked}
+use Rattle.bits.specs.Bits.{bit, bit_at, packed, place, update, or_bit}
 use Rattle.bits.proofs.Numbers.{bit-lt, bit-or, bit-and, bit_not, bit_shl}
 use Rattle.bits.proofs.Bytes.{Bytes, bit_at_in, bit_at_out, packed_ext, repack}
 
@@ -107,34 +107,27 @@ bit-cleared x o k lo lk =
     ∙ ap (min (bit x k)) (bit_not 8 ((1 * 2 ^ o) % 256) k (mod-lt _ (zero-lt-suc 255)) lk ∙ ap (λ (n : ℕ). 1 - bit n k) one ∙ ap (λ (n : ℕ). 1 - n) (bit_shl 1 o k (omega arith)))
     ∙ ⊎_elim {C = min (bit x k) (1 - cond (eqb k o) 1 0) ≡ cond (eqb k o) 0 (bit x k)} (λ h. rw (eq-eqb k o h) (omega arith)) (λ h. rw (ne_eqb k o h) (omega arith)) (same k o)
 
--- b is the byte x after the clearing, if there is one
-pub cleared : (clear : Bool) (x o b k : ℕ) → o < 8 → k < 8
-    → ((clear ≡ true) × (b ≡ bit_and x (255 - (1 * 2 ^ o) % 256))) ⊎ ((clear ≡ false) × (b ≡ x)) → bit b k ≡ cond (eqb k o) (cond clear 0 (bit x o)) (bit x k)
-cleared clear x o b k lo lk (inl w) = rw (w.1, w.0) (bit-cleared x o k lo lk)
-cleared clear x o b k lo lk (inr w) = rw (w.1, w.0) (update_same (bit x) o k)
+-- the byte x after the clearing, if there is one
+pub cleared : (clear : Bool) (x o k : ℕ) → o < 8 → k < 8
+    → bit (cond clear (bit_and x (255 - (1 * 2 ^ o) % 256)) x) k ≡ cond (eqb k o) (cond clear 0 (bit x o)) (bit x k)
+cleared true x o k lo lk = bit-cleared x o k lo lk
+cleared false x o k lo lk = update_same (bit x) o k
 
 or_cases : (t : Bool) (a b v : ℕ) → max (cond t a b) (cond t v 0) ≡ cond t (max a v) b
 or_cases true a b v = refl
 or_cases false a b v = omega arith
 
 -- the store of `set_bit_checked`: b is the byte after the clearing, if there is one
-pub set-or_bit : (clear : Bool) (xs : List ℕ) (j o b v : ℕ) → Bytes xs → j < length xs → o < 8 → b < 256
-    → ((k : ℕ) → k < 8 → bit b k ≡ cond (eqb k o) (cond clear 0 (bit (get_or xs j 0) o)) (bit (get_or xs j 0) k))
+pub set_or_bit : (clear : Bool) (xs : List ℕ) (j o b v : ℕ) → Bytes xs → j < length xs → o < 8 → b < 256
+    → b ≡ cond clear (bit_and (get_or xs j 0) (255 - (1 * 2 ^ o) % 256)) (get_or xs j 0)
     → set xs j (bit_or b ((bit_and v 1 * 2 ^ o) % 256)) ≡ or_bit clear xs (place (length xs) j o) v
 unfolding or_bit
-set-or_bit clear xs j o b v h l lo lb e =
+set_or_bit clear xs j o b v h l lo lb e =
     let i : ℕ = place (length xs) j o in
     let at : length xs - 1 - i / 8 ≡ j = omega arith in
     let off : i % 8 ≡ o = omega arith in
     let here : bit_at xs i ≡ bit (get_or xs j 0) o = bit_at_in xs i (omega arith) ∙ rw (at, off) in
     rw here (set-update xs j o (bit_or b ((bit_and v 1 * 2 ^ o) % 256)) (max (cond clear 0 (bit (get_or xs j 0) o)) (v % 2)) h l lo
     (or_lt 8 b _ lb (low_at_lt v o))
-    (λ k lk. bit-or b ((bit_and v 1 * 2 ^ o) % 256) k ∙ ap₂ max (e k lk) (bit_low_at v o k lo)
+    (λ k lk. bit-or b ((bit_and v 1 * 2 ^ o) % 256) k ∙ ap₂ max (rw e (cleared clear (get_or xs j 0) o k lo lk)) (bit_low_at v o k lo)
     ∙ or_cases (eqb k o) (cond clear 0 (bit (get_or xs j 0) o)) (bit (get_or xs j 0) k) (v % 2)))
-
--- `set_bit_checked` at the byte and the offset of bit i
-pub set-bit_at : (clear : Bool) (xs : List ℕ) (i v : ℕ) → i < 8 * length xs
-    → or_bit_checked clear xs (length xs - i / 8 - 1) (i % 8) v ≡ or_bit clear xs i v
-set-bit_at clear xs i v h =
-    let at : place (length xs) (length xs - i / 8 - 1) (i % 8) ≡ i = omega arith in
-    rw (lt-ltb (length xs - i / 8 - 1) (length xs) (omega arith), at)

@@ -1,15 +1,20 @@
 // Bits of bytes: one bit read or set, and a run of bits taken out of bytes.
 #![tactic(auto)]
 
+mod run; // run.rt: a run of bits of bytes that are lent
+
 ghost use Rattle.std.specs.Prelude.{◌≡◌, ◌+◌, ◌*◌, ◌%◌, ◌<◌, ◌≤◌, length, replicate, ltb};
 ghost use Rattle.kinds.specs.Types.{bytes_for};
 ghost use Rattle.order.specs.Order.{ordered};
 ghost use Rattle.bits.specs.Bits.{bit, bit_at, or_bit, or_bit_checked};
 ghost use Rattle.bits.specs.Moves.{extracted};
+ghost use Rattle.bits.specs.Runs.{bits_of_run, extracted_run};
 
-use kinds::{BitLength, ByteOrder};
+use kinds::ByteOrder;
+pub use run::Run;
 
 // Bit i of bytes, by the byte that it is in.
+#[tactic(auto, using(crate::proofs::Stores::bit_code))]
 pub fn bit_of(byte: u8, i: usize) -> u8
     ensures { result ≡ bit byte (i % 8) }
 {
@@ -17,6 +22,7 @@ pub fn bit_of(byte: u8, i: usize) -> u8
 }
 
 // Bit i of the bytes.
+#[tactic(auto, using(crate::proofs::Stores::bit_at_code))]
 pub fn bit_at(data: &[u8], i: usize) -> u8
     requires { i < 8 * length «data».now }
     ensures { result ≡ bit_at «data».now i }
@@ -26,6 +32,7 @@ pub fn bit_at(data: &[u8], i: usize) -> u8
 }
 
 // ORs the lowest bit of a value into a bit, which it clears first or not. Answers whether there is such a byte.
+#[tactic(auto, using(crate::proofs::Stores::set_or_bit))]
 pub fn set_bit_checked(
     result_bytes: &mut [u8],
     dst_byte_index: usize,
@@ -51,6 +58,7 @@ pub fn set_bit_checked(
 }
 
 // Bit i of the ordered form of the bytes.
+#[tactic(auto, using(crate::proofs::Stores::ordered_code))]
 pub fn ordered_bit_at(data: &[u8], byte_order: ByteOrder, i: usize) -> u8
     requires { i < 8 * length «data».now }
     ensures { result ≡ bit_at (ordered byte_order «data».now) i }
@@ -68,33 +76,31 @@ pub fn set_bit_at(data: &mut [u8], i: usize, bit_value: u8, clear_bit: bool)
     set_bit_checked(data, byte, kinds::bit_in_byte(i), bit_value, clear_bit);
 }
 
-// Zeros in all of the bytes.
+// Zeros in all of the bytes. It stays beside the library's method: two wrong edits are of it.
 pub fn zero(data: &mut [u8])
     ensures { «data».new ≡ replicate (length «data».old) 0 }
 {
-    let mut i = 0;
-    while i < data.len() {
-        data[i] = 0;
-        i += 1;
+    data.fill(0);
+}
+
+impl<'a> Run<'a> {
+    // Bit i of the run.
+    pub fn bit_at(self, i: usize) -> u8
+        requires { i < self.bit_len.0 }
+        ensures { result ≡ bits_of_run self.entry i }
+    {
+        ordered_bit_at(self.data.bytes, self.byte_order, self.bit_pos + i)
     }
 }
 
-// Takes bits of the ordered form of the data from a bit position on, right-aligned.
-pub fn extract_bits(
-    bit_len: BitLength,
-    bit_pos: usize,
-    data: &[u8],
-    byte_order: ByteOrder,
-    result_bytes: &mut [u8],
-)
-    requires data_len_bound { length «data».now ≤ 65535 }
-    requires bit_len_bound { bit_pos + bit_len.0 ≤ 8 * length «data».now }
-    requires result_bytes_len { length result_bytes.old ≡ bytes_for bit_len.0 }
-    ensures { result_bytes.new ≡ extracted bit_len.0 bit_pos (ordered byte_order «data».now) }
+// Takes a run of bits out, right-aligned.
+#[tactic(auto, using(crate::proofs::Steps::first_none, crate::proofs::Steps::first_step), unfolding(crate::specs::Moves::extracted))]
+pub fn extract_bits(run: Run, result_bytes: &mut [u8])
+    requires { length result_bytes.old ≡ bytes_for run.bit_len.0 }
+    ensures { result_bytes.new ≡ extracted_run run.entry }
 {
     zero(result_bytes);
-    for i in 0..bit_len.bits() {
-        let bit_value = ordered_bit_at(data, byte_order, bit_pos + i);
-        set_bit_at(result_bytes, i, bit_value, false);
+    for i in 0..run.bit_len.bits() {
+        set_bit_at(result_bytes, i, run.bit_at(i), false);
     }
 }

@@ -1,30 +1,17 @@
--- What the calls hand down: what an outcome leads to, slices that fit, and what holds of whatever a call gives.
+-- What holds of whatever a call makes of its own, holds of whatever the call gives.
 use mathlib.Core.Path.{◌≡◌, sym, ap, subst, ◌∙◌}
 use mathlib.Core.List.{List}
-use Prim.Native.Nat.{ℕ, ◌≤◌}
+use Prim.Native.Nat.{ℕ}
 use lib.ListN.{length}
 use Rattle.kinds.specs.Outcomes.{Outcome, gives, after, following}
-use Rattle.kinds.proofs.Outcomes.{made_passed, following-after}
+use Rattle.kinds.proofs.Outcomes.{following-after}
 use Rattle.kinds.proofs.Holding.{Holds, holds_after, holds_following}
 use Rattle.coded.specs.declared.coded_type.DiagCodedType.{DiagCodedType}
 use Rattle.field.specs.Refusals.{slices_refusal, description_refusal}
-use Rattle.field.proofs.Slices.{slices_fit}
-use Rattle.record.specs.Parsing.{coded_in}
-use Rattle.record.specs.declared.parsing.OptionalCoded.{OptionalCoded}
-use Rattle.record.specs.declared.parsing.OptionalCoded.TheVariants.{Coded}
-use Rattle.record.specs.Recorded.{well_formed, coded_by_record}
+use Rattle.record.specs.Recorded.{well_formed}
 use Rattle.described.specs.Described.{described}
 use Rattle.calls.specs.Calls.{Description, coded_said, record_bytes, coded_by, called}
-
--- what an outcome leads to
-pub led : {A B C : Type 0} (f : Outcome B → C) (next : A → Outcome B) {o o' : Outcome A} → o ≡ o' → f (following o next) ≡ f (following o' next)
-led {A = A} f next e = ap (λ (o : Outcome A). f (following o next)) e
-
--- a record that says a coded type was lent with slices that fit
-pub recorded_fit : (bytes : List ℕ) (store a b used : ℕ) {t : DiagCodedType} → gives t ≡ coded_by_record bytes store a b used
-    → (store ≤ 32768) × (a ≤ 65535) × (b ≤ 65535) × (used ≤ b)
-recorded_fit bytes store a b used e =
-    slices_fit (length bytes) store a b used (made_passed (slices_refusal (length bytes) store a b used) (well_formed (coded_in bytes)) e)
+use Rattle.std.specs.Prelude.{Option, Some}
 
 module _ {A : Type 0} (P : A → Type 0) (d : Description) (store : List ℕ) (a b used : ℕ) (own : DiagCodedType → Outcome A) where
   -- what holds of whatever a call makes of its own, holds of whatever the call gives
@@ -33,11 +20,11 @@ module _ {A : Type 0} (P : A → Type 0) (d : Description) (store : List ℕ) (a
       holds_following P (coded_by d (length store) a b used) (λ t. described t store own) (λ t. holds_after P (description_refusal t (length store)) (own t) (h t))
 
   -- the same of the one coded type that the description says
-  pub holds_said : (t : DiagCodedType) → coded_said d ≡ Coded t → Holds P (own t) → Holds P (called d store a b used own)
+  pub holds_said : (t : DiagCodedType) → coded_said d ≡ Some t → Holds P (own t) → Holds P (called d store a b used own)
   holds_said t e h =
       let slices = slices_refusal (record_bytes d) (length store) a b used in
       let next : DiagCodedType → Outcome A = λ s. described s store own in
       subst (λ (o : Outcome A). Holds P o)
       (sym
-      (ap (λ (o : OptionalCoded). following (after slices (well_formed o)) next) e ∙ following-after slices (gives t) next))
+      (ap (λ (o : Option DiagCodedType). following (after slices (well_formed o)) next) e ∙ following-after slices (gives t) next))
       (holds_after P slices (next t) (holds_after P (description_refusal t (length store)) (own t) h))

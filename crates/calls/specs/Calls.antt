@@ -1,13 +1,14 @@
 -- RULES 11: the whole answer of each call, by a coded type or by its record. What is refused first is said once, in `called`.
-use Rattle.std.specs.Prelude.{ℕ, List, [], length}
+use Rattle.std.specs.Prelude.{◌≡◌, ℕ, List, [], length, Result, Ok, Err}
+use Rattle.std.specs.Borrow.{Bor}
+use Rattle.kinds.specs.declared.refusals.Refusal.{Refusal}
 use Rattle.kinds.specs.Answers.{wrote}
+use Rattle.kinds.specs.Slices.{place_behind}
 use Rattle.kinds.specs.Outcomes.{Outcome, gives, lacks, refuses, after, following, Answer, answer, concluded}
 use Rattle.coded.specs.declared.coded_type.DiagCodedType.{DiagCodedType}
 use Rattle.coded.specs.Getters.{key_place_of}
 use Rattle.field.specs.Field.{field_of, part_at, start_at}
 use Rattle.field.specs.Refusals.{slices_refusal}
-use Rattle.record.specs.declared.parsing.OptionalCoded.{OptionalCoded}
-use Rattle.record.specs.declared.parsing.OptionalCoded.TheVariants.{Coded}
 use Rattle.record.specs.Parsing.{coded_in}
 use Rattle.record.specs.Recorded.{well_formed}
 use Rattle.parts.specs.Part.{runtime_part, part_answer}
@@ -17,6 +18,7 @@ use Rattle.payload.specs.Payload.{Payload, write_answer}
 use Rattle.writers.specs.Shapes.{field_encoding}
 use Rattle.clear.specs.Clear.{field_clearing}
 use Rattle.described.specs.Described.{described}
+use Rattle.std.specs.Prelude.{Option, Some}
 
 -- what a call is told of its field: a coded type, or the bytes of a record
 pub data Description : Type 0 where
@@ -24,8 +26,8 @@ pub data Description : Type 0 where
   by_record : List ℕ → Description
 
 -- the coded type that it says
-abbrev pub coded_said : Description → OptionalCoded
-coded_said (by_type t) = Coded t
+abbrev pub coded_said : Description → Option DiagCodedType
+coded_said (by_type t) = Some t
 coded_said (by_record bytes) = coded_in bytes
 
 -- the size of its record, which is a slice too
@@ -72,3 +74,13 @@ start_given (refuses r) = 0
 
 unfoldable pub name_start : Description → List ℕ → ℕ
 name_start d store = start_given (called d store 0 0 0 (λ t. gives (start_at (length store) (key_place_of t.type_))))
+
+-- ---- the answers of the code
+
+abbrev pub outcome_of_name : Result (Bor (List ℕ)) Refusal → Outcome (List ℕ)
+outcome_of_name (Ok name) = gives name.now
+outcome_of_name (Err r) = refuses r
+
+-- the name lies in the store where the coded type says
+abbrev pub NameLiesIn : DiagCodedType → Bor (List ℕ) → Bor (List ℕ) → Type 0
+NameLiesIn t store name = name.ref_ptr ≡ place_behind (name_start (by_type t) store.now) store.ref_ptr

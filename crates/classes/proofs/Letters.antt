@@ -8,7 +8,8 @@ use borrow.Author.Tests.{eqb-true, ne_eqb, lt-leb}
 use lib.Dec.{eqb}
 use Rattle.kinds.specs.declared.refusals.Refusal.{Refusal}
 use Rattle.kinds.specs.Answers.{number_of}
-use Rattle.classes.specs.Classes.{not_enough_data, letter, class_of, class_letter}
+use Rattle.classes.specs.declared.Class.TheVariants.{NotEnoughData}
+use Rattle.classes.specs.Classes.{letter, class_of, class_letter}
 use Rattle.kinds.proofs.Compare.{below, same}
 use Rattle.kinds.proofs.Outcomes.{both}
 use Rattle.kinds.proofs.Rows.{refusal_of, of_each_row}
@@ -33,15 +34,11 @@ of_run p a (suc k) e n from to =
 pub letter_of_row : (r : Refusal) → class_letter (number_of r) ≡ letter (class_of r)
 letter_of_row r = eqb-true _ _ (of_each_row (λ s. eqb (class_letter (number_of s)) (letter (class_of s))) refl r)
 
-pub letter_of_30 : class_letter 30 ≡ letter not_enough_data
+pub letter_of_30 : class_letter 30 ≡ letter NotEnoughData
 letter_of_30 = refl
 
 pub letter_of_0 : class_letter 0 ≡ 0
 letter_of_0 = refl
-
--- a run of numbers that all have one letter
-pub letter_in : (a k c : ℕ) → run (λ n. eqb (class_letter n) c) a k ≡ true → (n : ℕ) → a ≤ n → n < a + k → class_letter n ≡ c
-letter_in a k c e n from to = eqb-true _ _ (of_run (λ m. eqb (class_letter m) c) a k e n from to)
 
 pub letter_above : (n : ℕ) → 60 < n → class_letter n ≡ 0
 letter_above n h =

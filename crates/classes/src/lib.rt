@@ -2,31 +2,47 @@
 #![tactic(auto)]
 
 ghost use Rattle.std.specs.Prelude.{◌≡◌};
-ghost use Rattle.classes.specs.Classes.{class_letter};
+ghost use Rattle.classes.specs.Classes.{letter, class_with, class_letter};
 
-// The letters of RULES 10's column of classes, as ASCII has them.
-const CLASS_BAD_PAYLOAD: u32 = 66;
+// RULES 10's column of classes.
+#[derive(Clone, Copy, Debug, PartialEq, Eq)]
+enum Class {
+    BadPayload,
+    NotEnoughData,
+    InvalidDatabase,
+    Ours,
+}
 
-const CLASS_NOT_ENOUGH_DATA: u32 = 78;
+impl Class {
+    // The class of the refusal with a number.
+    fn with(number: u32) -> Option<Class>
+        ensures { result ≡ class_with number }
+    {
+        match number {
+            10 | 37 => Some(Class::InvalidDatabase),
+            11..=13 | 20..=27 | 31..=36 | 38 => Some(Class::BadPayload),
+            30 => Some(Class::NotEnoughData),
+            39..=45 | 58..=60 => Some(Class::Ours),
+            _ => None,
+        }
+    }
 
-const CLASS_INVALID_DATABASE: u32 = 68;
-
-const CLASS_OURS: u32 = 80;
+    // As ASCII has it.
+    fn letter(self) -> u32
+        ensures { result ≡ letter self }
+    {
+        u32::from(match self {
+            Class::BadPayload => b'B',
+            Class::NotEnoughData => b'N',
+            Class::InvalidDatabase => b'D',
+            Class::Ours => b'P',
+        })
+    }
+}
 
 // The letter of the class of a number, and 0 where no refusal has that number.
 pub fn class_of(number: u32) -> u32
     ensures { result ≡ class_letter number }
 {
-    match number {
-        10 => CLASS_INVALID_DATABASE,
-        11..=13 => CLASS_BAD_PAYLOAD,
-        20..=27 => CLASS_BAD_PAYLOAD,
-        30 => CLASS_NOT_ENOUGH_DATA,
-        31..=36 => CLASS_BAD_PAYLOAD,
-        37 => CLASS_INVALID_DATABASE,
-        38 => CLASS_BAD_PAYLOAD,
-        39..=45 => CLASS_OURS,
-        58..=60 => CLASS_OURS,
-        _ => 0,
-    }
+    Class::with(number).map_or(0, Class::letter)
 }

@@ -1,49 +1,33 @@
 // Clear of a field of a given length.
-ghost use Rattle.std.specs.Prelude.{◌≡◌, ◌≤◌, length};
+ghost use Rattle.std.specs.Prelude.{◌≡◌};
 ghost use Rattle.kinds.specs.Answers.{report_of_writing};
 ghost use Rattle.kinds.specs.Outcomes.{answer};
 ghost use Rattle.masks.specs.Mask.{mask_of};
-ghost use Rattle.payload.specs.Payload.{payload_of, write_answer};
+ghost use Rattle.payload.specs.Payload.{write_answer};
+ghost use Rattle.payload.specs.Held.{held, SameSlice};
 ghost use Rattle.clear.specs.Clear.{standard_cleared};
 
-use kinds::{BitLength, ByteCount, ByteOrder, Check, DataType, Refusal, Writing};
-use lengths::{effective_use, validate_standard};
-use masks::MaskUse;
+use kinds::{BitLength, ByteCount, ByteOrder, DataType, Failure, Position, Refusal};
+use masks::Mask;
+use payload::Payload;
 
 pub fn clear_standard_len(
     base_datatype: DataType,
     bit_len: BitLength,
-    described_use: MaskUse,
-    mask: &[u8],
+    described: Mask,
     byte_order: ByteOrder,
-    uds_payload: &mut [u8],
-    used: usize,
-    byte_pos: usize,
-    bit_pos: usize,
-) -> Writing
-    requires mask_len_bound { length mask.now ≤ 65535 }
-    requires uds_payload_len_bound { length uds_payload.old ≤ 65535 }
-    requires used_in_bounds { used ≤ length uds_payload.old }
-    ensures { answer (report_of_writing result) (payload_of uds_payload.new used) ≡ write_answer (payload_of uds_payload.old used) (standard_cleared base_datatype byte_order (payload_of uds_payload.old used) byte_pos bit_pos bit_len.0 (mask_of described_use mask.now)) }
+    payload: &mut Payload,
+    at: Position,
+) -> Result<(), Failure>
+    ensures same_slice { SameSlice payload.old payload.new }
+    ensures same_used { payload.new.used ≡ payload.old.used }
+    ensures value { answer (report_of_writing result) (held payload.new) ≡ write_answer (held payload.old) (standard_cleared base_datatype byte_order (held payload.old) at.byte_pos at.bit_pos bit_len.0 (mask_of described.entry)) }
 {
     if base_datatype.is_byte_type() {
-        return Writing::Refused(Refusal::NotClearable);
+        return Err(Failure::Refused(Refusal::NotClearable));
     }
-    match validate_standard(base_datatype, bit_len, described_use, mask) {
-        Check::Refused(refusal) => Writing::Refused(refusal),
-        Check::Passed => {
-            let mask_use = effective_use(described_use, mask);
-            let packing = pack::pack_data(bit_len, mask_use, mask, ByteCount(0), false);
-            payload::clear_source(
-                packing.bit_len,
-                mask_use,
-                mask,
-                byte_order,
-                uds_payload,
-                used,
-                byte_pos,
-                bit_pos,
-            )
-        }
-    }
+    lengths::validate_standard(base_datatype, bit_len, described)?;
+    let mask = lengths::effective(described);
+    let packing = pack::pack_data(bit_len, mask, ByteCount(0), false);
+    payload::clear_source(packing.bit_len, mask, byte_order, payload, at)
 }

@@ -1,48 +1,35 @@
 // Clear of a field: 39 of every variant but Standard.
-ghost use Rattle.std.specs.Prelude.{◌≡◌, ◌≤◌, length};
+ghost use Rattle.std.specs.Prelude.{◌≡◌};
 ghost use Rattle.kinds.specs.Answers.{report_of_writing};
 ghost use Rattle.kinds.specs.Outcomes.{answer};
-ghost use Rattle.masks.specs.Mask.{mask_of};
-ghost use Rattle.field.specs.Field.{field};
-ghost use Rattle.payload.specs.Payload.{payload_of};
+ghost use Rattle.field.specs.Field.{said_of};
+ghost use Rattle.payload.specs.Held.{held, SameSlice};
 ghost use Rattle.clear.specs.Clear.{clear_of};
 
 use clear::clear_standard_len;
-use field::Shape;
-use kinds::{ByteOrder, DataType, Refusal, Writing};
-use masks::MaskUse;
+use field::{Field, Shape};
+use kinds::{Failure, Position, Refusal};
+use payload::Payload;
 
 // Takes a numeric field of a given length back to zero: its own bits, and no others.
-pub fn clear_field(
-    base_datatype: DataType,
-    byte_order: ByteOrder,
-    shape: Shape,
-    mask_use: MaskUse,
-    mask: &[u8],
-    uds_payload: &mut [u8],
-    used: usize,
-    byte_pos: usize,
-    bit_pos: usize,
-) -> Writing
-    requires mask_len_bound { length mask.now ≤ 65535 }
-    requires uds_payload_len_bound { length uds_payload.old ≤ 65535 }
-    requires used_in_bounds { used ≤ length uds_payload.old }
-    ensures { answer (report_of_writing result) (payload_of uds_payload.new used) ≡ clear_of (field base_datatype byte_order shape (mask_of mask_use mask.now)) (payload_of uds_payload.old used) byte_pos bit_pos }
+pub fn clear_field(field: Field, payload: &mut Payload, at: Position) -> Result<(), Failure>
+    ensures same_slice { SameSlice payload.old payload.new }
+    ensures same_used { payload.new.used ≡ payload.old.used }
+    ensures result_value { answer (report_of_writing result) (held payload.new) ≡ clear_of (said_of field.entry) (held payload.old) at.byte_pos at.bit_pos }
 {
-    match shape {
-        Shape::Leading(_) => Writing::Refused(Refusal::NotClearable),
-        Shape::MinMax(_) => Writing::Refused(Refusal::NotClearable),
-        Shape::Standard(bits) => clear_standard_len(
-            base_datatype,
-            bits,
-            mask_use,
-            mask,
-            byte_order,
-            uds_payload,
-            used,
-            byte_pos,
-            bit_pos,
-        ),
-        Shape::Param => Writing::Refused(Refusal::NotClearable),
+    match field.shape {
+        Shape::Standard(bits) => {
+            clear_standard_len(
+                field.base_datatype,
+                bits,
+                field.mask,
+                field.byte_order,
+                payload,
+                at,
+            )
+        }
+        Shape::Leading(_) | Shape::MinMax(_) | Shape::Param => {
+            Err(Failure::Refused(Refusal::NotClearable))
+        }
     }
 }

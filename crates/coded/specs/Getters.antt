@@ -1,21 +1,20 @@
 -- What the small getters of a coded type give.
-use Rattle.coded.specs.declared.variants.OptionalPlace.{OptionalPlace}
-use Rattle.coded.specs.declared.variants.OptionalPlace.TheVariants.{At, Absent}
-use Rattle.coded.specs.declared.variants.OptionalBitLength.{OptionalBitLength}
-use Rattle.coded.specs.declared.variants.OptionalBitLength.TheVariants.{Bits, Variable}
+use Rattle.std.specs.Prelude.{Option, Some, None}
+use Rattle.kinds.specs.declared.types.BitLength.{BitLength}
+use Rattle.coded.specs.declared.variants.Place.{Place}
 use Rattle.coded.specs.declared.variants.DiagCodedTypeVariant.{DiagCodedTypeVariant}
 use Rattle.coded.specs.declared.variants.DiagCodedTypeVariant.TheVariants.{LeadingLengthInfo, MinMaxLength, StandardLength, ParamLengthInfo}
 
 -- the length that a description gives: of the length field, or of the field itself
-abbrev pub bit_len_of : DiagCodedTypeVariant → OptionalBitLength
-bit_len_of (LeadingLengthInfo bits) = Bits bits
-bit_len_of (MinMaxLength m) = Variable
-bit_len_of (StandardLength s) = Bits s.bit_length
-bit_len_of (ParamLengthInfo name) = Variable
+abbrev pub bit_len_of : DiagCodedTypeVariant → Option BitLength
+bit_len_of (LeadingLengthInfo bits) = Some bits
+bit_len_of (MinMaxLength m) = None
+bit_len_of (StandardLength s) = Some s.bit_length
+bit_len_of (ParamLengthInfo name) = None
 
 -- where the key's name stands in the store
-abbrev pub key_place_of : DiagCodedTypeVariant → OptionalPlace
-key_place_of (ParamLengthInfo name) = At name
-key_place_of (LeadingLengthInfo bits) = Absent
-key_place_of (MinMaxLength m) = Absent
-key_place_of (StandardLength s) = Absent
+abbrev pub key_place_of : DiagCodedTypeVariant → Option Place
+key_place_of (ParamLengthInfo name) = Some name
+key_place_of (LeadingLengthInfo bits) = None
+key_place_of (MinMaxLength m) = None
+key_place_of (StandardLength s) = None

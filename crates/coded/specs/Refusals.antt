@@ -1,11 +1,8 @@
 -- RULES 10, the numbers 10 to 13: 12 and 13 of the limits, then 10 and 11 of the coded type.
-use Rattle.std.specs.Prelude.{ℕ, ◌%◌, Bool, true, false, not, ◌&&◌, [], ◌∷◌, eqb, ltb}
+use Rattle.std.specs.Prelude.{ℕ, ◌%◌, Bool, true, false, not, ◌&&◌, [], ◌∷◌, eqb, ltb, Option, Some, None}
 use Rattle.kinds.specs.declared.types.DataType.{DataType}
 use Rattle.kinds.specs.declared.refusals.Refusal.TheVariants.{NumericWithVariableLength, OddUnicodeLimits, ZeroMaximum, MaximumBelowMinimum}
-use Rattle.kinds.specs.declared.refusals.Check.{Check}
-use Rattle.kinds.specs.declared.refusals.Check.TheVariants.{Passed}
-use Rattle.coded.specs.declared.variants.MaxLength.{MaxLength}
-use Rattle.coded.specs.declared.variants.MaxLength.TheVariants.{Most, Unlimited}
+use Rattle.kinds.specs.Answers.{Check, passed}
 use Rattle.coded.specs.declared.variants.MinMaxLengthType.{MinMaxLengthType}
 use Rattle.coded.specs.declared.variants.DiagCodedTypeVariant.{DiagCodedTypeVariant}
 use Rattle.coded.specs.declared.variants.DiagCodedTypeVariant.TheVariants.{LeadingLengthInfo, MinMaxLength, StandardLength, ParamLengthInfo}
@@ -14,15 +11,15 @@ use Rattle.kinds.specs.Types.{is_numeric, is_unicode_type}
 use Rattle.kinds.specs.Outcomes.{rule, first_among, or_else}
 
 -- there is a maximum, and the test holds of it
-abbrev pub some_max : (ℕ → Bool) → MaxLength → Bool
-some_max test (Most n) = test n
-some_max test Unlimited = false
+abbrev pub some_max : (ℕ → Bool) → Option ℕ → Bool
+some_max test (Some n) = test n
+some_max test None = false
 
 abbrev pub even : ℕ → Bool
 even n = eqb (n % 2) 0
 
 -- 12, 13: max is 0; max below min
-abbrev pub min_max_refusal : ℕ → MaxLength → Check
+abbrev pub min_max_refusal : ℕ → Option ℕ → Check
 min_max_refusal min max =
     first_among
     (rule (some_max (λ n. eqb n 0) max) ZeroMaximum
@@ -58,9 +55,9 @@ coded_type_refusal t v =
 -- 12, 13 of a variant that has limits
 abbrev pub limits_refusal : DiagCodedTypeVariant → Check
 limits_refusal (MinMaxLength m) = min_max_refusal m.min_length m.max_length
-limits_refusal (LeadingLengthInfo bits) = Passed
-limits_refusal (StandardLength s) = Passed
-limits_refusal (ParamLengthInfo name) = Passed
+limits_refusal (LeadingLengthInfo bits) = passed
+limits_refusal (StandardLength s) = passed
+limits_refusal (ParamLengthInfo name) = passed
 
 -- 12, 13, 10, 11 of a coded type, however it was made
 abbrev pub made_refusal : DiagCodedType → Check

@@ -4,8 +4,7 @@
 mod variants; // variants.rt: the four variants and what each holds
 mod coded_type; // coded_type.rt: the coded type, its making and its small getters
 
-pub use coded_type::{Built, DiagCodedType};
+pub use coded_type::DiagCodedType;
 pub use variants::{
-    DiagCodedTypeVariant, MaxLength, MinMaxBuilt, MinMaxLengthType, OptionalBitLength,
-    OptionalPlace, Place, StandardLengthType, Termination,
+    DiagCodedTypeVariant, MinMaxLengthType, Place, StandardLengthType, Termination,
 };

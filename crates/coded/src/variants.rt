@@ -1,57 +1,72 @@
 // The four variants of a coded type, and what each holds.
 ghost use Rattle.std.specs.Prelude.{◌≡◌};
 ghost use Rattle.coded.specs.Refusals.{min_max_refusal, limits_refusal};
-ghost use Rattle.coded.specs.Making.{new_min_max, outcome_of_min_max};
+ghost use Rattle.kinds.specs.Outcomes.{outcome_of};
+ghost use Rattle.coded.specs.Making.{new_min_max};
 
-use kinds::{BitLength, ByteCount, Check, Refusal};
+use kinds::{BitLength, ByteCount, Refusal, UnknownCode};
 
 // A part of the store of masks and key names.
-#[derive(Clone, Copy)]
+#[derive(Clone, Copy, Debug, PartialEq, Eq)]
 pub struct Place {
     pub at: usize,
     pub len: ByteCount,
 }
 
-#[derive(Clone, Copy)]
-pub enum OptionalPlace {
-    At(Place),
-    Absent,
-}
-
-#[derive(Clone, Copy)]
-pub enum OptionalBitLength {
-    Bits(BitLength),
-    Variable,
-}
-
-#[derive(Clone, Copy)]
+// How data bytes end, by the codes of a record.
+#[derive(Clone, Copy, Debug, PartialEq, Eq)]
 pub enum Termination {
-    EndOfPdu,
-    Zero,
-    HexFF,
+    EndOfPdu = 1,
+    Zero = 2,
+    HexFF = 3,
 }
 
-#[derive(Clone, Copy)]
-pub enum MaxLength {
-    Most(u32),
-    Unlimited,
+// A termination's code in a record.
+impl From<Termination> for u8 {
+    ghost use Rattle.std.specs.Prelude.{◌≡◌};
+    ghost use Rattle.coded.specs.Codes.{termination_code};
+
+    ghost from_gives = { λ termination code. code ≡ termination_code termination };
+
+    fn from(termination: Termination) -> u8 {
+        termination as u8
+    }
 }
 
-#[derive(Clone, Copy)]
+impl TryFrom<u8> for Termination {
+    type Error = UnknownCode;
+
+    ghost use Rattle.std.specs.Prelude.{◌≡◌, ok_or};
+    ghost use Rattle.kinds.specs.Codes.{unknown_code};
+    ghost use Rattle.coded.specs.Codes.{termination_of};
+
+    ghost try_from_gives = { λ code known. known ≡ ok_or (termination_of code) unknown_code };
+
+    fn try_from(code: u8) -> Result<Termination, UnknownCode> {
+        match code {
+            1 => Ok(Termination::EndOfPdu),
+            2 => Ok(Termination::Zero),
+            3 => Ok(Termination::HexFF),
+            _ => Err(UnknownCode),
+        }
+    }
+}
+
+#[derive(Clone, Copy, Debug, PartialEq, Eq)]
 pub struct MinMaxLengthType {
     pub min_length: u32,
-    pub max_length: MaxLength,
+    pub max_length: Option<u32>,
     pub termination: Termination,
 }
 
-#[derive(Clone, Copy)]
+#[derive(Clone, Copy, Debug, PartialEq, Eq)]
 pub struct StandardLengthType {
     pub bit_length: BitLength,
-    pub bit_mask: OptionalPlace,
+    pub bit_mask: Option<Place>,
     pub condensed: bool,
 }
 
-#[derive(Clone, Copy)]
+#[derive(Clone, Copy, Debug, PartialEq, Eq)]
 pub enum DiagCodedTypeVariant {
     LeadingLengthInfo(BitLength),
     MinMaxLength(MinMaxLengthType),
@@ -59,25 +74,20 @@ pub enum DiagCodedTypeVariant {
     ParamLengthInfo(Place),
 }
 
-// The answer of `MinMaxLengthType::new`.
-#[derive(Clone, Copy)]
-pub enum MinMaxBuilt {
-    Made(MinMaxLengthType),
-    Refused(Refusal),
-}
-
 impl MinMaxLengthType {
-    pub fn new(min_length: u32, max_length: MaxLength, termination: Termination) -> MinMaxBuilt
-        ensures { outcome_of_min_max result ≡ new_min_max min_length max_length termination }
+    pub fn new(
+        min_length: u32,
+        max_length: Option<u32>,
+        termination: Termination,
+    ) -> Result<MinMaxLengthType, Refusal>
+        ensures { outcome_of result ≡ new_min_max min_length max_length termination }
     {
-        match validate_limits(min_length, max_length) {
-            Check::Refused(refusal) => MinMaxBuilt::Refused(refusal),
-            Check::Passed => MinMaxBuilt::Made(MinMaxLengthType {
-                min_length,
-                max_length,
-                termination,
-            }),
-        }
+        validate_limits(min_length, max_length)?;
+        Ok(MinMaxLengthType {
+            min_length,
+            max_length,
+            termination,
+        })
     }
 
     pub fn min_length(self) -> u32
@@ -86,7 +96,7 @@ impl MinMaxLengthType {
         self.min_length
     }
 
-    pub fn max_length(self) -> MaxLength
+    pub fn max_length(self) -> Option<u32>
         ensures { result ≡ self.max_length }
     {
         self.max_length
@@ -99,36 +109,26 @@ impl MinMaxLengthType {
     }
 }
 
-fn validate_limits(min_length: u32, max_length: MaxLength) -> Check
+fn validate_limits(min_length: u32, max_length: Option<u32>) -> Result<(), Refusal>
     ensures { result ≡ min_max_refusal min_length max_length }
 {
     match max_length {
-        MaxLength::Most(most) => {
-            if most == 0 {
-                return Check::Refused(Refusal::ZeroMaximum);
-            }
-            if most < min_length {
-                return Check::Refused(Refusal::MaximumBelowMinimum);
-            }
-            Check::Passed
-        }
-        MaxLength::Unlimited => Check::Passed,
+        Some(0) => Err(Refusal::ZeroMaximum),
+        Some(most) if most < min_length => Err(Refusal::MaximumBelowMinimum),
+        _ => Ok(()),
     }
 }
 
 impl DiagCodedTypeVariant {
     // 12 and 13, where the variant has limits.
-    pub fn validate_limits(self) -> Check
+    pub fn validate_limits(self) -> Result<(), Refusal>
         ensures { result ≡ limits_refusal self }
     {
         match self {
-            DiagCodedTypeVariant::LeadingLengthInfo(_) => Check::Passed,
             DiagCodedTypeVariant::MinMaxLength(limits) => {
-                let max_length = limits.max_length;
-                validate_limits(limits.min_length, max_length)
+                validate_limits(limits.min_length, limits.max_length)
             }
-            DiagCodedTypeVariant::StandardLength(_) => Check::Passed,
-            DiagCodedTypeVariant::ParamLengthInfo(_) => Check::Passed,
+            _ => Ok(()),
         }
     }
 }

@@ -1,17 +1,18 @@
 -- Bits gathered through a condensed mask: none yet, one more, and how many.
-use mathlib.Core.Path.{◌≡◌, refl, sym, ap, ◌∙◌}
+use mathlib.Core.Path.{◌≡◌, refl, sym, ap}
 use mathlib.Core.Logic.{⊎_elim}
 use mathlib.Core.Bool.{Bool, true, false, cond}
 use mathlib.Core.List.{List, [], ◌∷◌, ◌++◌, append-nil}
 use Prim.Native.Nat.{ℕ, zero, suc, ◌+◌, ◌-◌, ◌/◌, ◌%◌, ◌≤◌, ◌<◌}
 use native.Mathlib.Numerals.{add-one}
 use native.Mathlib.Omega.{arith}
-use lib.ListN.{length, get_or, length-append, get_or-eq_default}
+use lib.ListN.{replicate, length, get_or, length-append, get_or-eq_default}
 use lib.Dec.{eqb}
 use borrow.Author.Tests.{eq-eqb, ne_eqb}
 use Rattle.kinds.proofs.Compare.{same}
 use Rattle.bits.specs.Bits.{bit, packed, or_bit}
 use Rattle.bits.proofs.Numbers.{Bits, bit_of_zero}
+use Rattle.bits.proofs.Bytes.{packed_zero}
 use Rattle.bits.proofs.Steps.{or_bit_step}
 use Rattle.condensed.specs.Condensed.{front_bit, gathered, bits_of}
 
@@ -74,36 +75,27 @@ front_bit_out mask n i h =
     let none : get_or mask (n - 1 - i / 8) 0 ≡ 0 = get_or-eq_default mask 0 (omega arith) in
     rw none (bit_of_zero (i % 8))
 
--- ---- the loop: its result holds what is gathered of the first i bits, and count says how many
+-- ---- the loop: how many bits are gathered of the first i + 1, and the bytes that hold them
 
-pub record Gathering (m f : ℕ → ℕ) (n i count : ℕ) (out : List ℕ) : Type 0 where
-  pub len : length out ≡ n
-  pub few : count ≤ i
-  pub many : count ≡ length (gathered m f i)
-  pub bits : out ≡ packed n (bits_of (gathered m f i))
+module _ (m f : ℕ → ℕ) where
+  pub many_none : length (gathered m f 0) ≡ 0
+  unfolding gathered
+  many_none = refl
 
-module _ (m f : ℕ → ℕ) (b : Bits f) where
-  pub gathering_more : (n i count a v count' : ℕ) (out out' : List ℕ) → a ≡ m i → v ≡ f i
-      → count' ≡ cond (eqb a 1) (count + 1) count → out' ≡ cond (eqb a 1) (or_bit false out count v) out → length out' ≡ length out
-      → Gathering m f n i count out → Gathering m f n (i + 1) count' out'
-  gathering_more n i count a v count' out out' ea ev ec eo el g =
-      let gl = g.len in
-      let gm = g.many in
-      let gf = g.few in
-      ⊎_elim
-      (λ (h : a ≡ 1).
-      let one = gathered_one m f i (sym ea ∙ h) in
-      let c1 : count' ≡ count + 1 = ec ∙ rw (eq-eqb a 1 h) in
-      let o1 : out' ≡ or_bit false out count v = eo ∙ rw (eq-eqb a 1 h) in
-      record {
-        len = el ∙ gl;
-        few = omega arith;
-        many = rw (one, length-append) (omega arith);
-        bits = o1 ∙ rw (gm, ev, one) (snoc_step (gathered m f i) out n (f i) (bits_gathered m f i b) (b i) g.bits);
-      })
-      (λ (h : a ≡ 1 → ⊥).
-      let none = gathered_none m f i (λ e. h (ea ∙ e)) in
-      let c1 : count' ≡ count = ec ∙ rw (ne_eqb a 1 h) in
-      let o1 : out' ≡ out = eo ∙ rw (ne_eqb a 1 h) in
-      record { len = el ∙ gl; few = omega arith; many = rw none (c1 ∙ gm); bits = rw none (o1 ∙ g.bits) })
-      (same a 1)
+  pub bytes_none : (n : ℕ) → packed n (bits_of (gathered m f 0)) ≡ replicate n 0
+  unfolding gathered
+  bytes_none n = packed_zero n
+
+  pub many_more : (i : ℕ) → length (gathered m f (i + 1)) ≡ cond (eqb (m i) 1) (length (gathered m f i) + 1) (length (gathered m f i))
+  many_more i =
+      ⊎_elim (λ (h : m i ≡ 1). rw (gathered_one m f i h, eq-eqb (m i) 1 h, length-append))
+      (λ (h : m i ≡ 1 → ⊥). rw (gathered_none m f i h, ne_eqb (m i) 1 h))
+      (same (m i) 1)
+
+  pub bytes_more : Bits f → (n i : ℕ)
+      → packed n (bits_of (gathered m f (i + 1)))
+      ≡ cond (eqb (m i) 1) (or_bit false (packed n (bits_of (gathered m f i))) (length (gathered m f i)) (f i)) (packed n (bits_of (gathered m f i)))
+  bytes_more b n i =
+      ⊎_elim (λ (h : m i ≡ 1). rw (gathered_one m f i h, eq-eqb (m i) 1 h) (sym (snoc_step (gathered m f i) _ n (f i) (bits_gathered m f i b) (b i) refl)))
+      (λ (h : m i ≡ 1 → ⊥). rw (gathered_none m f i h, ne_eqb (m i) 1 h))
+      (same (m i) 1)

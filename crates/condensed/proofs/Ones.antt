@@ -8,6 +8,7 @@ use native.Mathlib.Omega.{arith}
 use lib.ListN.{length, get_or, drop, get_or-eq_default, drop_of_length-le}
 use lib.Seq.{drop-cons}
 use lib.Count.{ones, ones_step}
+use Rattle.std.proofs.lemmas.List.Sums.{sum_by-cons}
 use Rattle.kinds.proofs.Compare.{below}
 use Rattle.bits.specs.Bits.{bit}
 use Rattle.bits.proofs.Numbers.{Bits, bit-zero, bit-suc}
@@ -16,9 +17,9 @@ use Rattle.condensed.specs.Condensed.{ones_of, ones_below}
 -- ---- byte by byte
 
 pub ones_of-from : (xs : List ℕ) (j : ℕ) → ones_of (drop j xs) ≡ ones (get_or xs j 0) + ones_of (drop (suc j) xs)
-unfolding ones_of ones
+unfolding ones
 ones_of-from xs j =
-    ⊎_elim (λ l. ap ones_of (drop-cons xs j 0 l))
+    ⊎_elim (λ l. ap ones_of (drop-cons xs j 0 l) ∙ sum_by-cons ones (get_or xs j 0) (drop (suc j) xs))
     (λ (l : length xs ≤ j). rw (drop_of_length-le xs l, get_or-eq_default xs 0 l, drop_of_length-le xs {i = suc j} (omega arith)))
     (below j (length xs))
 

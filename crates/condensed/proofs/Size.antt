@@ -67,5 +67,12 @@ module _ (mask : List ℕ) (len : ℕ) where
   length-condensed field = ap length (sym (condensed-packed field)) ∙ length-packed (bytes_left counted filled) (bits_of (picked mask len field))
 
   -- the same from two numbers that are those
-  pub bytes_left_is : (r e : ℕ) → r ≡ counted → e ≡ filled → bytes_left r e ≡ condensed_bytes mask len
-  bytes_left_is r e er ee = ap₂ bytes_left er ee ∙ sym (length-condensed (λ k. 0))
+  module _ (r e : ℕ) (er : r ≡ counted) (ee : e ≡ filled) where
+    left_is : bytes_left r e ≡ condensed_bytes mask len
+    left_is = ap₂ bytes_left er ee ∙ sym (length-condensed (λ k. 0))
+
+    pub dropped_is : e < r → r - e ≡ condensed_bytes mask len
+    dropped_is h = rw (lt-ltb e r h) at left_is
+
+    pub kept_is : r ≤ e → r ≡ condensed_bytes mask len
+    kept_is h = rw (le-ltb e r h) at left_is

@@ -6,7 +6,7 @@ use lib.Count.{ones, ones_in}
 use Rattle.kinds.proofs.Examples.{Example, hold, ◌is◌}
 use Rattle.bits.specs.Bits.{bit, bit_at, number, packed}
 use Rattle.bits.specs.Moves.{injected}
-use Rattle.condensed.specs.Condensed.{front_bit, ones_below, gathered, ones_of, condensed_count, condensed, replacement, replaced}
+use Rattle.condensed.specs.Condensed.{front_bit, ones_below, gathered, condensed_count, condensed, replacement, replaced}
 use Rattle.condensed.specs.Gathered.{ones_met}
 
 examples : List Example
@@ -34,5 +34,5 @@ examples =
     ∷ []
 
 all_hold : hold examples ≡ true
-unfolding examples bit bit_at number packed injected front_bit gathered ones_of ones ones_in condensed ones_below replacement replaced
+unfolding examples bit bit_at number packed injected front_bit gathered ones ones_in condensed ones_below replacement replaced
 all_hold = refl

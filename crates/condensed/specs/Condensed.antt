@@ -1,5 +1,5 @@
 -- RULES 4.3 to 4.7: a condensed mask, read from its front and written from its end.
-use Rattle.std.specs.Prelude.{ℕ, zero, suc, ◌+◌, ◌-◌, ◌*◌, ◌/◌, ◌%◌, min, cond, List, [], ◌∷◌, ◌++◌, length, get_or, drop, ltb, eqb}
+use Rattle.std.specs.Prelude.{ℕ, zero, suc, ◌+◌, ◌-◌, ◌*◌, ◌/◌, ◌%◌, min, cond, List, [], ◌∷◌, ◌++◌, length, get_or, drop, ltb, eqb, sum_by}
 use Rattle.std.specs.Int.Count.{ones}
 use Rattle.kinds.specs.Types.{bytes_for}
 use Rattle.bits.specs.Bits.{bit, bit_at, packed}
@@ -29,9 +29,8 @@ abbrev pub bits_of : List ℕ → ℕ → ℕ
 bits_of l k = get_or l k 0
 
 -- the ones in each byte, counted over the entire mask
-unfoldable pub ones_of : List ℕ → ℕ
-ones_of [] = 0
-ones_of (x ∷ xs) = ones x + ones_of xs
+abbrev pub ones_of : List ℕ → ℕ
+ones_of = sum_by ones
 
 -- the bit count t: the smaller of the length and the ones in the mask
 abbrev pub condensed_count : List ℕ → ℕ → ℕ

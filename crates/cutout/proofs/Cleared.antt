@@ -1,5 +1,5 @@
--- Owned bits that are cleared, as a mask clears them.
-use mathlib.Core.Path.{◌≡◌, refl, ap, ◌∙◌}
+-- Without a mask all bits of a length are owned, and a mask of ones clears them.
+use mathlib.Core.Path.{◌≡◌, ap, ◌∙◌}
 use mathlib.Core.Bool.{cond}
 use mathlib.Core.List.{List, [], ◌∷◌}
 use Prim.Native.Nat.{ℕ, ◌-◌, ◌/◌, ◌%◌, min}
@@ -10,17 +10,9 @@ use Rattle.bits.specs.Moves.{within, overlaid}
 use Rattle.bits.proofs.Numbers.{bit_not, bit_of_zero}
 use Rattle.bits.proofs.Bytes.{packed_ext}
 use Rattle.masks.specs.declared.plain.Kept.TheVariants.{UnderZeros}
-use Rattle.masks.specs.Mask.{no_mask, plain_mask, condensed_mask}
+use Rattle.masks.specs.Mask.{no_mask}
 use Rattle.masks.specs.Plain.{bit_of_mask, masked}
 use Rattle.cutout.specs.CutOut.{cleared}
-
-pub plain_cleared : (mask : List ℕ) (len pos : ℕ) (xs : List ℕ) → masked UnderZeros len pos mask xs ≡ cleared (plain_mask mask) len pos xs
-unfolding cleared
-plain_cleared mask len pos xs = refl
-
-pub condensed-cleared : (mask : List ℕ) (len pos : ℕ) (xs : List ℕ) → masked UnderZeros len pos mask xs ≡ cleared (condensed_mask mask) len pos xs
-unfolding cleared
-condensed-cleared mask len pos xs = refl
 
 -- a mask of one byte FF has ones alone: without a mask all bits are owned
 ones : (i : ℕ) → bit_of_mask (0xFF ∷ []) i ≡ 1

@@ -1,3 +1,2 @@
--- `Cleared` has the laws of owned bits, and `Puts` what calls leave of a cut-out.
+-- `Cleared` has what a clear without a mask takes away.
 pub mod Cleared
-pub mod Puts

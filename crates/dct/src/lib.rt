@@ -1,18 +1,17 @@
 // The functions that C calls, by way of `dct_c`, and nothing else. Every byte pattern and every number gets an answer: nothing is required.
 #![tactic(auto)]
 
-ghost use Rattle.std.specs.Prelude.{◌≡◌, ◌∷◌};
+ghost use Rattle.std.specs.Prelude.{◌≡◌, ◌∷◌, length};
 ghost use Rattle.kinds.specs.Answers.{numbered, report_of_check};
 ghost use Rattle.classes.specs.Classes.{class_letter};
 ghost use Rattle.kinds.specs.Outcomes.{answer};
 ghost use Rattle.payload.specs.Payload.{payload_of};
 ghost use Rattle.calls.specs.Calls.{by_record, decoded, encoded, cleared_field, runtime_read};
-ghost use Rattle.parts.specs.Part.{part_start};
+ghost use Rattle.parts.specs.Part.{part_start, part_in};
 ghost use Rattle.values.specs.Values.{value_read_by_code, value_written_by_code};
 ghost use Rattle.dct.specs.Boundary.{start_answer, places_fetched};
 
-use kinds::{ByteCount, Check};
-use table::Fetched;
+use kinds::{ByteCount, Failure, Lent, Refusal};
 
 // Reads the field that a record describes into the output.
 pub fn dct_decode(
@@ -26,8 +25,8 @@ pub fn dct_decode(
 ) -> u32
     ensures { answer (result ∷ report.new) output.new ≡ decoded (by_record «record».now) store.now payload.now byte_pos bit_pos output.old }
 {
-    let reading = calls::decode_by_record(record, store, payload, byte_pos, bit_pos, output);
-    reading.report(report)
+    let reading = calls::decode(record, store, payload, byte_pos, bit_pos, output);
+    kinds::report(reading, report)
 }
 
 // Writes the input as the field that a record describes.
@@ -43,8 +42,8 @@ pub fn dct_encode(
 ) -> u32
     ensures { answer (result ∷ report.new) (payload_of payload.new used.new) ≡ encoded (by_record «record».now) store.now input.now (payload_of payload.old used.old) byte_pos bit_pos }
 {
-    let writing = calls::encode_by_record(record, store, input, payload, used, byte_pos, bit_pos);
-    writing.report(report)
+    let writing = calls::encode(record, store, input, payload, used, byte_pos, bit_pos);
+    kinds::report(writing, report)
 }
 
 // Takes the field that a record describes back to zero.
@@ -59,18 +58,18 @@ pub fn dct_clear(
 ) -> u32
     ensures { answer (result ∷ report.new) (payload_of payload.new used) ≡ cleared_field (by_record «record».now) store.now (payload_of payload.old used) byte_pos bit_pos }
 {
-    let writing = calls::clear_by_record(record, store, payload, used, byte_pos, bit_pos);
-    writing.report(report)
+    let writing = calls::clear(record, store, payload, used, byte_pos, bit_pos);
+    kinds::report(writing, report)
 }
 
-// Where a part of so many bytes starts, and 0 where it is empty.
-fn part_start(part_len: ByteCount, byte_pos: usize) -> usize
-    ensures { result ≡ part_start part_len.0 byte_pos }
+// Where the part starts that is read at a byte position, and 0 where it is empty or there is none.
+fn start_of(read: Result<Lent, Failure>, byte_pos: usize) -> usize
+    ensures { result ≡ part_start (length (part_in read.entry)) byte_pos }
 {
-    if part_len.bytes() == 0 {
-        return 0;
+    match read {
+        Ok(part) if !part.bytes.is_empty() => byte_pos,
+        _ => 0,
     }
-    byte_pos
 }
 
 // Tells where so many bytes of the payload start, where they are in it.
@@ -85,32 +84,30 @@ pub fn dct_read(
 ) -> u32
     ensures { answer (result ∷ report.new) place.new ≡ start_answer byte_pos (runtime_read (by_record «record».now) store.now payload.now byte_pos byte_count) }
 {
-    let mut number = 0;
-    let part = calls::decode_with_runtime_byte_length_by_record(
+    let read = calls::decode_with_runtime_byte_length(
         record,
         store,
         payload,
         byte_pos,
         ByteCount(byte_count),
-        &mut number,
-        report,
     );
-    *place = part_start(ByteCount(part.len()), byte_pos);
-    number
+    *place = start_of(read, byte_pos);
+    kinds::report(read, report)
 }
 
 // Tells where a table has the record with a number, and where its store.
+#[tactic(auto, unfolding(crate::specs::Boundary::places_fetched))]
 pub fn dct_fetch(table: &[u8], number: usize, places: &mut [usize; 3]) -> u32
     ensures { answer (numbered result) places.new ≡ places_fetched table.now number }
 {
     match table::fetch(table, number) {
-        Fetched::Refused(refusal) => {
-            *places = [0, 0, 0];
-            refusal.number()
-        }
-        Fetched::Found(entry) => {
+        Ok(entry) => {
             *places = [entry.record_at, entry.store_at, entry.store_len.bytes()];
             0
+        }
+        Err(refusal) => {
+            *places = [0, 0, 0];
+            refusal.number()
         }
     }
 }
@@ -123,12 +120,12 @@ pub fn dct_class(number: u32) -> u32
 }
 
 // The number of a refusal, and 0 of a pass.
-fn number_of(check: Check) -> u32
+fn number_of(check: Result<(), Refusal>) -> u32
     ensures { numbered result ≡ report_of_check check }
 {
     match check {
-        Check::Passed => 0,
-        Check::Refused(refusal) => refusal.number(),
+        Ok(()) => 0,
+        Err(refusal) => refusal.number(),
     }
 }
 

@@ -6,24 +6,19 @@ use Prim.Native.Nat.{ℕ, ◌+◌}
 use lib.ListN.{length}
 use lib.Dec.{ltb, leb}
 use borrow.Author.Tests.{eqb-false}
+use Rattle.std.specs.Prelude.{Option, Some, None, Ok, Err}
 use Rattle.kinds.specs.declared.refusals.Refusal.{Refusal}
 use Rattle.kinds.specs.declared.refusals.Refusal.TheVariants.{MalformedRecord, SliceTooLong, MalformedTable}
-use Rattle.kinds.specs.declared.refusals.Check.{Check}
-use Rattle.kinds.specs.declared.refusals.Check.TheVariants as check
 use Rattle.kinds.specs.Slices.{cut}
-use Rattle.kinds.specs.Answers.{number_of}
+use Rattle.kinds.specs.Answers.{Check, number_of}
 use Rattle.kinds.specs.Outcomes.{rule, first_among, Outcome, gives, refuses, after, following}
 use Rattle.kinds.proofs.Rows.{never_0, never_30}
 use Rattle.coded.specs.declared.coded_type.DiagCodedType.{DiagCodedType}
 use Rattle.field.specs.Refusals.{description_refusal}
-use Rattle.record.specs.declared.parsing.OptionalCoded.{OptionalCoded}
-use Rattle.record.specs.declared.parsing.OptionalCoded.TheVariants as coded
 use Rattle.record.specs.Numbers.{record_size}
 use Rattle.record.specs.Parsing.{coded_in}
 use Rattle.record.specs.Recorded.{well_formed}
 use Rattle.table.specs.declared.Header.{Header}
-use Rattle.table.specs.declared.OptionalHeader.{OptionalHeader}
-use Rattle.table.specs.declared.OptionalHeader.TheVariants as header
 use Rattle.table.specs.declared.Entry.{Entry}
 use Rattle.table.specs.Table.{record_place, total_size, header_of, entry, fetched_under, fetched}
 use Rattle.table.proofs.Headers.{total_size_lem}
@@ -37,32 +32,29 @@ module _ {A : Type 0} (Good : A → Type 0) where
   makes a h = inl (record { made = a; good = h; is = refl })
 
   pub makes_after : (c : Check) (o : Outcome A) → Makes Good o → Makes Good (after c o)
-  makes_after check.Passed o m = m
-  makes_after (check.Refused r) o m = inr (turns_down r)
+  makes_after (Ok done) o m = m
+  makes_after (Err r) o m = inr (turns_down r)
 
   -- what a record says, and what is made of it
-  makes_said : (said : OptionalCoded) (next : DiagCodedType → Outcome A) → ((t : DiagCodedType) → Makes Good (next t))
+  makes_said : (said : Option DiagCodedType) (next : DiagCodedType → Outcome A) → ((t : DiagCodedType) → Makes Good (next t))
       → Makes Good (following (well_formed said) next)
-  makes_said (coded.Coded t) next f = f t
-  makes_said coded.Malformed next f = inr (turns_down MalformedRecord)
+  makes_said (Some t) next f = f t
+  makes_said None next f = inr (turns_down MalformedRecord)
 
-pub said_makes : (said : OptionalCoded) → Makes (λ t. said ≡ coded.Coded t) (well_formed said)
-said_makes (coded.Coded t) = makes _ t refl
-said_makes coded.Malformed = inr (turns_down MalformedRecord)
+pub said_makes : (said : Option DiagCodedType) → Makes (λ t. said ≡ Some t) (well_formed said)
+said_makes (Some t) = makes _ t refl
+said_makes None = inr (turns_down MalformedRecord)
 
 module _ (table : List ℕ) (number : ℕ) where
   abbrev StoreLast : Entry → Type 0
   StoreLast e = e.store_at + e.store_len.0 ≡ length table
 
-  fetch_under : (o : OptionalHeader) → ((h : Header) → header.Valid h ≡ o → total_size h ≡ length table) → Makes StoreLast (fetched_under table number o)
-  fetch_under (header.Valid h) f =
-      let next : DiagCodedType → Outcome Entry = λ t. after (description_refusal t h.store_len.0) (gives (entry h number t)) in
-      let said = coded_in (cut (record_place number) record_size table) in
-      makes_after StoreLast (first_among (rule (leb h.count number) MalformedRecord ∷ [])) (following (well_formed said) next)
-      (makes_said StoreLast said next (λ t. makes_after StoreLast (description_refusal t h.store_len.0) (gives (entry h number t)) (makes StoreLast (entry h number t) (f h refl))))
-  fetch_under header.Malformed f = inr (turns_down MalformedTable)
+  fetch_under : (o : Option Header) → ((h : Header) → Some h ≡ o → total_size h ≡ length table) → Makes StoreLast (fetched_under table number o)
+  fetch_under (Some h) f =
+      makes_after StoreLast (first_among (rule (leb h.count number) MalformedRecord ∷ [])) _
+      (makes_said StoreLast (coded_in (cut (record_place number) record_size table)) _ (λ t. makes_after StoreLast (description_refusal t h.store_len.0) _ (makes StoreLast (entry h number t) (f h refl))))
+  fetch_under None f = inr (turns_down MalformedTable)
 
   pub fetch_makes : Makes StoreLast (fetched table number)
   unfolding fetched
-  fetch_makes =
-      makes_after StoreLast (first_among (rule (ltb 65535 (length table)) SliceTooLong ∷ [])) (fetched_under table number (header_of table)) (fetch_under (header_of table) (total_size_lem table))
+  fetch_makes = makes_after StoreLast (first_among (rule (ltb 65535 (length table)) SliceTooLong ∷ [])) _ (fetch_under (header_of table) (total_size_lem table))

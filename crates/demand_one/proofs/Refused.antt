@@ -9,20 +9,19 @@ use lib.ListN.{length, drop, length-append, length-take, length-drop}
 use lib.Seq.{drop-append_seam}
 use lib.Dec.{eqb, ltb}
 use borrow.Author.Tests.{ne_eqb}
+use Rattle.std.specs.Prelude.{Option, Some, None}
 use Rattle.kinds.specs.declared.types.DataType.{DataType}
 use Rattle.kinds.specs.declared.types.DataType.TheVariants.{ByteField}
 use Rattle.kinds.specs.declared.types.ByteOrder.{ByteOrder}
 use Rattle.kinds.specs.declared.refusals.Refusal.TheVariants.{OutputLacksRoom, NotClearable}
-use Rattle.kinds.specs.declared.refusals.Check.{Check}
 use Rattle.kinds.specs.Types.{is_byte_type, is_unicode_type}
 use Rattle.kinds.specs.Slices.{saturating_sum, cut}
-use Rattle.kinds.specs.Answers.{numbered, wrote, read}
+use Rattle.kinds.specs.Answers.{Check, numbered, wrote, read}
 use Rattle.kinds.specs.Outcomes.{rule, first_among, Outcome, gives, lacks, refuses, after, unless_short, answer}
 use Rattle.kinds.specs.Refusals.{bit_position_refusal}
 use Rattle.kinds.proofs.Compare.{below, same}
+use Rattle.kinds.proofs.Holding.{Holds, holds_after, holds_short, holds_following, holds_any}
 use Rattle.coded.specs.declared.variants.Place.{Place}
-use Rattle.coded.specs.declared.variants.OptionalPlace.{OptionalPlace}
-use Rattle.coded.specs.declared.variants.OptionalPlace.TheVariants as place
 use Rattle.coded.specs.declared.variants.DiagCodedTypeVariant.TheVariants.{ParamLengthInfo}
 use Rattle.coded.specs.declared.coded_type.DiagCodedType.{DiagCodedType}
 use Rattle.coded.specs.Refusals.{min_max_refusal, coded_type_refusal, made_refusal}
@@ -44,14 +43,14 @@ use Rattle.cutout.specs.CutOut.{cleared}
 use Rattle.payload.specs.Payload.{Payload, payload_of}
 use Rattle.payload.specs.Writing.{in_cut_out, cut_bytes, cut_end, above_seven, write_refusal, written, writing, clearing}
 use Rattle.lengths.specs.Refusals.{standard_refusal, count_refusal, empty_refusal}
-use Rattle.writers.specs.Shapes.{with_terminator, shape_encoded, field_encoding}
-use Rattle.clear.specs.Clear.{shape_cleared, field_clearing}
+use Rattle.writers.specs.Shapes.{with_terminator, shape_encoded}
+use Rattle.clear.specs.Clear.{shape_cleared}
 use Rattle.parts.specs.Part.{runtime_part, part_answer, part_start}
 use Rattle.calls.specs.Calls.{Description, by_type, by_record, coded_by, called, decoded, encoded, cleared_field, runtime_read, key_name}
 use Rattle.dct.specs.Boundary.{start_answer, places_of, places_fetched}
 use Rattle.demand_one.specs.Refusing.{Ends, Decodes, Reads, Encodes, Clears, Fetches, HandsBack, Names, Stores, ByDescription, Demand1}
 use Rattle.demand_one.proofs.Sizes.{size_written, size_cleared}
-use Rattle.demand_one.proofs.Ending.{refuses_row, refuses_30, Holds, holds_after, holds_short, holds_following, ends, holds_any}
+use Rattle.demand_one.proofs.Ending.{refuses_row, refuses_30, ends}
 use Rattle.demand_one.proofs.Made.{makes, makes_after, said_makes, fetch_makes}
 use Rattle.demand_one.proofs.Values.{value_read_ends, value_written_ends, value_read_by_code_ends, value_written_by_code_ends}
 
@@ -107,9 +106,9 @@ in_store : (store : List ℕ) (p : Place) (out : Bool) → PartOf store (cond ou
 in_store store p true = record { at = 0; size = 0; part = refl }
 in_store store p false = record { at = p.at; size = p.len.0; part = refl }
 
-at_place : (store : List ℕ) (p : OptionalPlace) → PartOf store (part_at store p)
-at_place store (place.At p) = in_store store p (outside p (length store))
-at_place store place.Absent = record { at = 0; size = 0; part = refl }
+at_place : (store : List ℕ) (p : Option Place) → PartOf store (part_at store p)
+at_place store (Some p) = in_store store p (outside p (length store))
+at_place store None = record { at = 0; size = 0; part = refl }
 
 -- ---- writings
 
@@ -160,10 +159,9 @@ module _ (d : Description) (store : List ℕ) where
   encode_ends : (input : List ℕ) (p : Payload) (at pos : ℕ) → Ends (Encodes p) p (encoded d store input p at pos)
   unfolding encoded
   encode_ends input p at pos =
-      let own : DiagCodedType → Outcome Payload = λ t. field_encoding (field_of t store) input p at pos in
       let P : Payload → Type 0 = λ q. length q.bytes ≡ length p.bytes in
-      ends P (Encodes p) p (answer wrote) (λ q h. record { reports = refl; size = h }) (called d store (length input) (length p.bytes) p.used own)
-      (holds_called P d store (length input) (length p.bytes) p.used own
+      ends P (Encodes p) p (answer wrote) (λ q h. record { reports = refl; size = h }) _
+      (holds_called P d store (length input) (length p.bytes) p.used _
       (λ t.
       let f = field_of t store in
       holds_after P (bit_position_refusal f.type pos) (shape_encoded f.order input p at pos f.type f.shape f.mask) (encode_keeps p f.order at pos input f.type f.shape f.mask)))
@@ -171,53 +169,44 @@ module _ (d : Description) (store : List ℕ) where
   clear_ends : (p : Payload) (at pos : ℕ) → Ends (Clears p) p (cleared_field d store p at pos)
   unfolding cleared_field
   clear_ends p at pos =
-      let own : DiagCodedType → Outcome Payload = λ t. field_clearing (field_of t store) p at pos in
       let P : Payload → Type 0 = λ q. (length q.bytes ≡ length p.bytes) × (q.used ≡ p.used) in
-      ends P (Clears p) p (answer wrote) (λ q h. (record { reports = refl; size = h.0 }, h.1)) (called d store 0 (length p.bytes) p.used own)
-      (holds_called P d store 0 (length p.bytes) p.used own (λ t. let f = field_of t store in clear_keeps p f.order at pos f.type f.shape f.mask))
+      ends P (Clears p) p (answer wrote) (λ q h. (record { reports = refl; size = h.0 }, h.1)) _
+      (holds_called P d store 0 (length p.bytes) p.used _ (λ t. let f = field_of t store in clear_keeps p f.order at pos f.type f.shape f.mask))
 
   read_ends : (payload : List ℕ) (at count : ℕ) → Ends (Reads payload) 0 (start_answer at (runtime_read d store payload at count))
   unfolding runtime_read
   read_ends payload at count =
-      let own : DiagCodedType → Outcome (List ℕ) = λ t. runtime_part payload at count in
-      let P : List ℕ → Type 0 = λ part. part_start (length part) at + length part ≤ length payload in
-      let end = saturating_sum at count in
-      part_ends payload at (called d store (length payload) 0 0 own)
-      (holds_called P d store (length payload) 0 0 own
-      (λ t. holds_short P (not (eqb count 0) && ltb (length payload) end) end (length payload) (gives (cut at count payload)) (part_inside payload at count)))
+      part_ends payload at _
+      (holds_called (λ part. part_start (length part) at + length part ≤ length payload) d store (length payload) 0 0 (λ t. runtime_part payload at count)
+      (λ t. holds_short _ (not (eqb count 0) && ltb (length payload) (saturating_sum at count)) _ _ (gives (cut at count payload)) (part_inside payload at count)))
 
   part_handed : (payload : List ℕ) (at count : ℕ) → Ends (HandsBack payload at count) [] (runtime_read d store payload at count)
   unfolding runtime_read
   part_handed payload at count =
-      let own : DiagCodedType → Outcome (List ℕ) = λ t. runtime_part payload at count in
       let P : List ℕ → Type 0 = λ part. part ≡ cut at count payload in
-      let end = saturating_sum at count in
-      ends P (HandsBack payload at count) [] (λ part. answer (read (8 * length part) (length part)) part) (λ part h. record { reports = refl; part = h })
-      (called d store (length payload) 0 0 own)
-      (holds_called P d store (length payload) 0 0 own
-      (λ t. holds_short P (not (eqb count 0) && ltb (length payload) end) end (length payload) (gives (cut at count payload)) refl))
+      ends P (HandsBack payload at count) [] (λ part. answer (read (8 * length part) (length part)) part) (λ part h. record { reports = refl; part = h }) _
+      (holds_called P d store (length payload) 0 0 (λ t. runtime_part payload at count)
+      (λ t. holds_short P (not (eqb count 0) && ltb (length payload) (saturating_sum at count)) _ _ (gives (cut at count payload)) refl))
 
   key_name_ends : Ends (Names store) [] (key_name d store)
   unfolding key_name
   key_name_ends =
-      let own : DiagCodedType → Outcome (List ℕ) = λ t. gives (part_at store (key_place_of t.type_)) in
-      ends (PartOf store) (Names store) [] (answer wrote) (λ name h. record { at = h.at; size = h.size; reports = refl; part = h.part }) (called d store 0 0 0 own)
-      (holds_called (PartOf store) d store 0 0 0 own (λ t. at_place store (key_place_of t.type_)))
+      ends (PartOf store) (Names store) [] (answer wrote) (λ name h. record { at = h.at; size = h.size; reports = refl; part = h.part }) _
+      (holds_called (PartOf store) d store 0 0 0 _ (λ t. at_place store (key_place_of t.type_)))
 
 fetch_ends : (table : List ℕ) (number : ℕ) → Ends Fetches (0 ∷ 0 ∷ 0 ∷ []) (places_fetched table number)
 unfolding places_fetched
 fetch_ends table number =
     ends (λ (e : Entry). e ≡ e) Fetches (0 ∷ 0 ∷ 0 ∷ []) (λ e. answer wrote (places_of e))
-    (λ e h. record { record_at = e.record_at; store_at = e.store_at; store_len = e.store_len.0; reports = refl; places = refl }) (fetched table number)
+    (λ e h. record { record_at = e.record_at; store_at = e.store_at; store_len = e.store_len.0; reports = refl; places = refl }) _
     (holds_any (fetched table number))
 
 record_of_ends : (t : DiagCodedType) (old : List ℕ) → Ends Stores old (stored_record t old)
 unfolding stored_record
 record_of_ends t old =
-    let check = storing_refusal (numbers_for t).place in
-    let bytes = bytes_of (numbers_for t) in
     let P : List ℕ → Type 0 = λ bytes. length bytes ≡ record_size in
-    ends P Stores old (answer wrote) (λ bytes h. record { reports = refl; size = h }) (after check (gives bytes)) (holds_after P check (gives bytes) refl)
+    ends P Stores old (answer wrote) (λ bytes h. record { reports = refl; size = h }) _
+    (holds_after P (storing_refusal (numbers_for t).place) (gives (bytes_of (numbers_for t))) refl)
 
 -- ---- all of them
 

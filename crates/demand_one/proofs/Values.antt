@@ -7,55 +7,51 @@ use Prim.Native.Nat.{ℕ}
 use lib.ListN.{length}
 use lib.Dec.{ltb}
 use lib.IntN.{ℤ}
+use Rattle.std.specs.Prelude.{Option, Some, None, Err}
 use Rattle.kinds.specs.declared.refusals.Refusal.TheVariants.{SliceTooLong, WidthNotAllowed}
-use Rattle.kinds.specs.declared.refusals.Check.TheVariants.{Refused}
 use Rattle.kinds.specs.Answers.{wrote, report_of_check}
-use Rattle.kinds.specs.Outcomes.{gives, after, Answer, answer}
+use Rattle.kinds.specs.Outcomes.{gives, Answer, answer}
+use Rattle.kinds.proofs.Holding.{holds_after}
 use Rattle.bits.specs.Bits.{bit, bit_at, number, packed}
 use Rattle.bits.proofs.Bytes.{length-packed}
 use Rattle.encodings.specs.declared.forms.Encoding.{Encoding}
-use Rattle.encodings.specs.declared.forms.OptionalEncoding.{OptionalEncoding}
-use Rattle.encodings.specs.declared.forms.OptionalEncoding.TheVariants.{Known, Unknown}
 use Rattle.encodings.specs.Widths.{encoding_of, fits}
 use Rattle.encodings.specs.Meaning.{meaning}
 use Rattle.encodings.specs.Writing.{pattern_of}
 use Rattle.encodings.specs.Refusals.{range_refusal, digit_refusal}
 use Rattle.values.specs.Values.{size_refusal, value_read, value_written, by_encoding, value_read_by_code, value_written_by_code}
 use Rattle.demand_one.specs.Refusing.{Refuses, Ends, ReadsValue, WritesValue, ReadsByCode, WritesByCode}
-use Rattle.demand_one.proofs.Ending.{refuses_row, holds_after, ends}
+use Rattle.demand_one.proofs.Ending.{refuses_row, ends}
 
 pub value_read_ends : (e : Encoding) (width : ℕ) (xs : List ℕ) (old : ℤ) → Ends (ReadsValue e width xs) old (value_read e width xs old)
 unfolding value_read
 value_read_ends e width xs old =
     let bits = number width (bit_at xs) in
     let P : ℤ → Type 0 = λ z. z ≡ meaning e width bits in
-    let said = after (digit_refusal e width bits) (gives (meaning e width bits)) in
-    let size = size_refusal (fits e width (length xs)) (length xs) in
-    ends P (ReadsValue e width xs) old (answer wrote) (λ z h. record { reports = refl; means = h }) (after size said)
-    (holds_after P size said (holds_after P (digit_refusal e width bits) (gives (meaning e width bits)) refl))
+    ends P (ReadsValue e width xs) old (answer wrote) (λ z h. record { reports = refl; means = h }) _
+    (holds_after P (size_refusal (fits e width (length xs)) (length xs)) _ (holds_after P (digit_refusal e width bits) (gives (meaning e width bits)) refl))
 
 pub value_written_ends : (e : Encoding) (width : ℕ) (v : ℤ) (xs : List ℕ) → Ends (WritesValue xs) xs (value_written e width v xs)
 unfolding value_written
 value_written_ends e width v xs =
     let bytes = packed (length xs) (bit (pattern_of e width v)) in
     let P : List ℕ → Type 0 = λ ys. length ys ≡ length xs in
-    let written = after (range_refusal e width v) (gives bytes) in
-    let size = size_refusal (fits e width (length xs)) (length xs) in
-    ends P (WritesValue xs) xs (answer wrote) (λ ys h. record { reports = refl; size = h }) (after size written)
-    (holds_after P size written (holds_after P (range_refusal e width v) (gives bytes) (length-packed (length xs) (bit (pattern_of e width v)))))
+    ends P (WritesValue xs) xs (answer wrote) (λ ys h. record { reports = refl; size = h }) _
+    (holds_after P (size_refusal (fits e width (length xs)) (length xs)) _
+    (holds_after P (range_refusal e width v) (gives bytes) (length-packed (length xs) (bit (pattern_of e width v)))))
 
 -- ---- by a code
 
 module _ {A : Type 0} (old : A) where
-  unknown_refuses : (long : Bool) → Refuses old (answer (report_of_check (cond long (Refused SliceTooLong) (Refused WidthNotAllowed))) old)
+  unknown_refuses : (long : Bool) → Refuses old (answer (report_of_check (cond long (Err SliceTooLong) (Err WidthNotAllowed))) old)
   unknown_refuses true = refuses_row old SliceTooLong
   unknown_refuses false = refuses_row old WidthNotAllowed
 
   -- a good answer by an encoding is one by the code that tells it
-  by_encoding_ends : (Good : Answer A → Type 0) (told : OptionalEncoding) (size : ℕ) (call : Encoding → Answer A)
-      → ((e : Encoding) → told ≡ Known e → Ends Good old (call e)) → Ends Good old (by_encoding told size old call)
-  by_encoding_ends Good (Known e) size call f = f e refl
-  by_encoding_ends Good Unknown size call f = inr (unknown_refuses (ltb 65535 size))
+  by_encoding_ends : (Good : Answer A → Type 0) (told : Option Encoding) (size : ℕ) (call : Encoding → Answer A)
+      → ((e : Encoding) → told ≡ Some e → Ends Good old (call e)) → Ends Good old (by_encoding told size old call)
+  by_encoding_ends Good (Some e) size call f = f e refl
+  by_encoding_ends Good None size call f = inr (unknown_refuses (ltb 65535 size))
 
 pub value_read_by_code_ends : (code width : ℕ) (xs : List ℕ) (old : ℤ) → Ends (ReadsByCode code width xs) old (value_read_by_code code width xs old)
 unfolding value_read_by_code

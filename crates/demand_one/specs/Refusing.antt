@@ -1,18 +1,16 @@
 -- Demand 1: every input ends in an answer or in a numbered refusal, and a refusal changes nothing. This file states it, of the definitions
 -- that the contracts of the calls cite; proofs/Refused proves it.
-use Rattle.std.specs.Prelude.{◌≡◌, ◌⊎◌, Bool, List, [], ◌∷◌, ℕ, ◌+◌, ◌*◌, ◌≤◌, length, drop, ℤ}
+use Rattle.std.specs.Prelude.{◌≡◌, ◌⊎◌, Bool, List, [], ◌∷◌, ℕ, ◌+◌, ◌*◌, ◌≤◌, length, drop, Option, Some, ℤ}
 use Rattle.kinds.specs.declared.types.DataType.{DataType}
 use Rattle.kinds.specs.declared.refusals.Refusal.{Refusal}
 use Rattle.kinds.specs.Slices.{cut}
 use Rattle.kinds.specs.Answers.{number_of, wrote, read}
 use Rattle.kinds.specs.Outcomes.{Outcome, gives, refuses, after, Answer}
-use Rattle.coded.specs.declared.variants.MaxLength.{MaxLength}
 use Rattle.coded.specs.declared.variants.Termination.{Termination}
 use Rattle.coded.specs.declared.variants.DiagCodedTypeVariant.{DiagCodedTypeVariant}
 use Rattle.coded.specs.declared.coded_type.DiagCodedType.{DiagCodedType}
 use Rattle.coded.specs.Refusals.{made_refusal}
 use Rattle.coded.specs.Making.{new_min_max, new_coded_type}
-use Rattle.record.specs.declared.parsing.OptionalCoded.TheVariants.{Coded}
 use Rattle.record.specs.Numbers.{record_size}
 use Rattle.record.specs.Parsing.{coded_in}
 use Rattle.record.specs.Recorded.{coded_by_record}
@@ -21,7 +19,6 @@ use Rattle.table.specs.Table.{fetched}
 use Rattle.payload.specs.Payload.{Payload}
 use Rattle.bits.specs.Bits.{bit_at, number}
 use Rattle.encodings.specs.declared.forms.Encoding.{Encoding}
-use Rattle.encodings.specs.declared.forms.OptionalEncoding.TheVariants.{Known}
 use Rattle.encodings.specs.Widths.{encoding_of}
 use Rattle.encodings.specs.Meaning.{meaning}
 use Rattle.values.specs.Values.{value_read, value_written, value_read_by_code, value_written_by_code}
@@ -112,12 +109,12 @@ pub record WritesValue (xs : List ℕ) (s : Answer (List ℕ)) : Type 0 where
 -- by a code, which tells an encoding then
 pub record ReadsByCode (code width : ℕ) (xs : List ℕ) (s : Answer ℤ) : Type 0 where
   pub encoding : Encoding
-  pub told : encoding_of code ≡ Known encoding
+  pub told : encoding_of code ≡ Some encoding
   pub reads : ReadsValue encoding width xs s
 
 pub record WritesByCode (code : ℕ) (xs : List ℕ) (s : Answer (List ℕ)) : Type 0 where
   pub encoding : Encoding
-  pub told : encoding_of code ≡ Known encoding
+  pub told : encoding_of code ≡ Some encoding
   pub writes : WritesValue xs s
 
 -- a call that is lent nothing to change: it makes something, of which this holds,
@@ -162,10 +159,10 @@ pub record Demand1 : Type 0 where
   pub value_written : (e : Encoding) (width : ℕ) (v : ℤ) (xs : List ℕ) → Ends (WritesValue xs) xs (value_written e width v xs)
   pub value_read_by_code : (code width : ℕ) (xs : List ℕ) (old : ℤ) → Ends (ReadsByCode code width xs) old (value_read_by_code code width xs old)
   pub value_written_by_code : (code width : ℕ) (v : ℤ) (xs : List ℕ) → Ends (WritesByCode code xs) xs (value_written_by_code code width v xs)
-  pub new_limits : (min : ℕ) (max : MaxLength) (e : Termination)
+  pub new_limits : (min : ℕ) (max : Option ℕ) (e : Termination)
       → Makes (λ m. (m.min_length ≡ min) × (m.max_length ≡ max) × (m.termination ≡ e)) (new_min_max min max e)
   pub new : (t : DataType) (v : DiagCodedTypeVariant) (high_low : Bool)
       → Makes (λ c. (c.base_datatype ≡ t) × (c.type_ ≡ v) × (c.is_high_low_byte_order ≡ high_low)) (new_coded_type t v high_low)
   pub validate : (t : DiagCodedType) → Makes (λ c. c ≡ t) (after (made_refusal t) (gives t))
-  pub coded_by_record : (bytes : List ℕ) (store a b used : ℕ) → Makes (λ t. coded_in bytes ≡ Coded t) (coded_by_record bytes store a b used)
+  pub coded_by_record : (bytes : List ℕ) (store a b used : ℕ) → Makes (λ t. coded_in bytes ≡ Some t) (coded_by_record bytes store a b used)
   pub fetch_entry : (table : List ℕ) (number : ℕ) → Makes (λ e. e.store_at + e.store_len.0 ≡ length table) (fetched table number)

@@ -7,11 +7,10 @@ use native.Mathlib.Omega.{arith}
 use lib.ListN.{length, length-append, length-replicate}
 use lib.Dec.{eqb, ltb}
 use borrow.Author.Tests.{ltb-false, le-ltb, not-true}
+use Rattle.std.specs.Prelude.{Ok, Err}
 use Rattle.kinds.specs.declared.refusals.Refusal.TheVariants.{BitPositionAboveSeven, PayloadLacksRoom}
-use Rattle.kinds.specs.declared.refusals.Check.{Check}
-use Rattle.kinds.specs.declared.refusals.Check.TheVariants.{Passed, Refused}
 use Rattle.kinds.specs.Types.{is_numeric, is_byte_type}
-use Rattle.kinds.specs.Answers.{number_in, wrote}
+use Rattle.kinds.specs.Answers.{number_in, Check, passed, wrote}
 use Rattle.kinds.specs.Outcomes.{Outcome, gives, after, answer}
 use Rattle.kinds.specs.Refusals.{bit_position_refusal}
 use Rattle.kinds.proofs.Outcomes.{both, rule_passed}
@@ -37,9 +36,9 @@ abbrev pub fine : Payload → Outcome Payload → Bool
 fine p o = eqb (number_in (write_answer p o).report) 0
 
 -- nothing was refused before
-pub none_before : (c : Check) (p : Payload) (o : Outcome Payload) → fine p (after c o) ≡ true → (c ≡ Passed) × (fine p o ≡ true)
-none_before Passed p o e = (refl, e)
-none_before (Refused r) p o e = absurd (true≢false (sym e ∙ never_0 r))
+pub none_before : (c : Check) (p : Payload) (o : Outcome Payload) → fine p (after c o) ≡ true → (c ≡ passed) × (fine p o ≡ true)
+none_before (Ok done) p o e = (refl, e)
+none_before (Err r) p o e = absurd (true≢false (sym e ∙ never_0 r))
 
 -- the parts of an acceptance
 pub record Accepted (w : Way) (n : ℕ) (x : w.Told) : Type 0 where
@@ -58,7 +57,7 @@ accepted_parts w n x e =
 -- what matters of a field that is accepted
 pub record Taken (n : ℕ) (f : Placed) : Type 0 where
   pub numeric : is_byte_type f.type ≡ false
-  pub allowed : standard_refusal f.type f.len f.mask ≡ Passed
+  pub allowed : standard_refusal f.type f.len f.mask ≡ passed
   pub seven : f.pos ≤ 7
   pub inside : Inside (cut_of f) n
 
@@ -71,7 +70,7 @@ accepted_taken n f small e =
     let own = none_before (bit_position_refusal f.type f.pos) (zeros n) _ parts.number in
     let length-ok = none_before (standard_refusal f.type f.len f.mask) (zeros n) _ own.1 in
     let seven = rule_passed (ltb 7 f.pos) BitPositionAboveSeven _ (none_before (write_refusal size (zeros n) f.at f.pos) (zeros n) _ length-ok.1).0 in
-    let room = ltb-false _ (cut_end f.at f.pos size) (rule_passed _ PayloadLacksRoom Passed seven.1).0 in
+    let room = ltb-false _ (cut_end f.at f.pos size) (rule_passed _ PayloadLacksRoom passed seven.1).0 in
     record { numeric = not-true (is_byte_type f.type) parts.numeric; allowed = length-ok.0; seven = ltb-false 7 f.pos seven.0; inside = omega arith }
 
 -- ---- what is left
@@ -118,8 +117,8 @@ abbrev pub accepts : ℕ → Payload → Outcome Payload → Bool
 accepts n p o = fine p o && eqb (write_answer p o).left.used n
 
 after_accepts : (n : ℕ) (c : Check) (p : Payload) (o o' : Outcome Payload) → accepts n p o ≡ accepts n p o' → accepts n p (after c o) ≡ accepts n p (after c o')
-after_accepts n Passed p o o' h = h
-after_accepts n (Refused r) p o o' h = refl
+after_accepts n (Ok done) p o o' h = h
+after_accepts n (Err r) p o o' h = refl
 
 -- a field that is accepted with one value is accepted with every other
 pub value_free : (n : ℕ) (f : Placed) (v v' : List ℕ) (p : Payload)

@@ -18,7 +18,7 @@ use Rattle.bits.specs.Bits.{bit, bit_at, number, packed}
 use Rattle.bits.specs.Moves.{first, extracted, injected, overlaid}
 use Rattle.masks.specs.Mask.{Mask, no_mask, plain_mask, condensed_mask}
 use Rattle.masks.specs.Plain.{bit_of_mask}
-use Rattle.condensed.specs.Condensed.{front_bit, ones_below, gathered, ones_of, condensed, replacement, replaced}
+use Rattle.condensed.specs.Condensed.{front_bit, ones_below, gathered, condensed, replacement, replaced}
 use Rattle.pack.specs.Source.{standard_bits}
 use Rattle.cutout.specs.CutOut.{cleared, readied}
 use Rattle.payload.specs.Payload.{payload_of}
@@ -167,5 +167,5 @@ examples =
     ∷ []
 
 all_hold : hold examples ≡ true
-unfolding examples ordered bit bit_at number packed extracted injected overlaid bit_of_mask front_bit ones_below gathered ones_of condensed replacement replaced standard_bits cleared readied spliced in_cut_out grown writing clearing read_answer unpacked bits_finding footprint owns build all_accepted apart_below apart_from disjoint ones
+unfolding examples ordered bit bit_at number packed extracted injected overlaid bit_of_mask front_bit ones_below gathered condensed replacement replaced standard_bits cleared readied spliced in_cut_out grown writing clearing read_answer unpacked bits_finding footprint owns build all_accepted apart_below apart_from disjoint ones
 all_hold = refl

@@ -8,7 +8,7 @@ use lib.ListN.{length, length-replicate}
 use lib.Dec.{ltb}
 use borrow.Author.Tests.{ltb-false, le-ltb, leb-true}
 use Rattle.kinds.specs.declared.refusals.Refusal.TheVariants.{SliceTooLong}
-use Rattle.kinds.specs.declared.refusals.Check.TheVariants.{Passed}
+use Rattle.kinds.specs.Answers.{passed}
 use Rattle.kinds.specs.Outcomes.{Outcome, gives, lacks, refuses, following, after}
 use Rattle.kinds.proofs.Outcomes.{rule_passed, following-after}
 use Rattle.kinds.proofs.Rows.{never_0}
@@ -42,7 +42,7 @@ called_as : {A : Type 0} (d : Description) (store : List ℕ) (a b used : ℕ) (
 called_as {A} d store a b used own =
     following-after (slices_refusal (record_bytes d) (length store) a b used) (coded_as d) (λ t. described t store own)
 
-slices_pass : (bytes store a b used : ℕ) → bytes ≤ 65535 → store ≤ 32768 → a ≤ 65535 → b ≤ 65535 → used ≤ b → slices_refusal bytes store a b used ≡ Passed
+slices_pass : (bytes store a b used : ℕ) → bytes ≤ 65535 → store ≤ 32768 → a ≤ 65535 → b ≤ 65535 → used ≤ b → slices_refusal bytes store a b used ≡ passed
 slices_pass bytes store a b used g h i j k = rw (le-ltb 65535 bytes g, le-ltb 32768 store h, le-ltb 65535 a i, le-ltb 65535 b j, le-ltb b used k)
 
 -- a description of StandardLength that is refused for nothing of its own
@@ -51,7 +51,7 @@ record Legal (d : Description) (store : List ℕ) : Type 0 where
   pub standard : StandardLengthType
   pub says : coded_as d ≡ gives coded
   pub is_standard : coded.type_ ≡ StandardLength standard
-  pub passes : description_refusal coded (length store) ≡ Passed
+  pub passes : description_refusal coded (length store) ≡ passed
   pub record_size_lem : record_bytes d ≤ 65535
   pub store_size : length store ≤ 32768
 
@@ -88,7 +88,7 @@ module _ (d : Description) (store : List ℕ) (g : Legal d store) where
 record Coded (o : Outcome DiagCodedType) (store : List ℕ) : Type 0 where
   pub coded : DiagCodedType
   pub says : o ≡ gives coded
-  pub passes : description_refusal coded (length store) ≡ Passed
+  pub passes : description_refusal coded (length store) ≡ passed
 
 coded_fine : (o : Outcome DiagCodedType) (store : List ℕ) (own : DiagCodedType → Outcome Payload) (p : Payload)
     → fine p (following o (λ t. described t store own)) ≡ true → Coded o store

@@ -1,7 +1,7 @@
 -- What bits say, way by way: the highest bit by a comparison, and the number that each encoding gives where it is 1.
 use mathlib.Core.Path.{◌≡◌, refl, sym, ap, ◌∙◌}
 use mathlib.Core.Logic.{⊎_elim}
-use mathlib.Core.Bool.{true, false, ◌&&◌, true≢false}
+use mathlib.Core.Bool.{Bool, true, false, ◌&&◌, true≢false}
 use Prim.Native.Nat.{ℕ, zero, suc, ◌-◌, ◌*◌, ◌/◌, ◌%◌, ◌^◌, ◌≤◌, ◌<◌}
 use native.Mathlib.Omega.{arith}
 use native.Mathlib.Nat.{div-eq_of_lt, div-eq_of_lt-le, pow-le-pow_right}
@@ -11,16 +11,18 @@ use lib.Signed.{mag}
 use mir.Syntax.{w64}
 use mir.Val.{SFits}
 use borrow.Author.Tests.{lt-ltb, le-ltb, leb-true, eqb-true}
+use denote.Enum.Bare.{sameb}
 use Rattle.kinds.proofs.Compare.{below}
 use Rattle.kinds.proofs.Outcomes.{both}
 use Rattle.bits.specs.Bits.{bit}
 use Rattle.encodings.specs.declared.forms.Encoding.{Encoding}
 use Rattle.encodings.specs.declared.forms.Encoding.TheVariants.{TwosComplement, OnesComplement, SignMagnitude, PackedDecimal}
+use Rattle.encodings.specs.contracts.forms.Encoding.{the_type}
 use Rattle.encodings.specs.Widths.{whole_digits, allowed}
 use Rattle.numerals.specs.Digits.{rebased}
 use Rattle.encodings.specs.Meaning.{by_sign, meaning, legal_digits}
 use Rattle.encodings.specs.Writing.{depth}
-use Rattle.encodings.specs.CodeSaid.{is_decimal, opposite_of}
+use Rattle.encodings.specs.CodeSaid.{opposite_of}
 use Rattle.numerals.proofs.Rebased.{rebased-lt}
 use Rattle.numerals.proofs.Halves.{halves, half_most}
 
@@ -39,6 +41,10 @@ digits_of width h =
     let high = leb-true width 64 more.0 in
     let whole = eqb-true (width % 4) 0 more.1 in
     (omega arith, omega arith, omega arith)
+
+-- the code asks for packed decimal by `==`
+abbrev pub is_decimal : Encoding → Bool
+is_decimal e = sameb the_type e PackedDecimal
 
 -- ---- the highest bit
 
@@ -100,6 +106,8 @@ signed_legal TwosComplement width bits s = refl
 signed_legal OnesComplement width bits s = refl
 signed_legal SignMagnitude width bits s = refl
 signed_legal PackedDecimal width bits s = absurd (true≢false s)
+
+pub ruleset said_laws = (widths, signed_low, signed_high, signed_legal)
 
 -- and the fourth is packed decimal
 pub is_packed : (e : Encoding) → is_decimal e ≡ true → e ≡ PackedDecimal

@@ -3,15 +3,19 @@ use mathlib.Core.Path.{◌≡◌, refl, sym, ap, ◌∙◌}
 use mathlib.Core.Bool.{Bool, true, false, ◌&&◌, and-true, true≢false}
 use Prim.Native.Nat.{ℕ, zero, suc, ◌+◌, ◌-◌, ◌^◌, ◌≤◌, ◌<◌}
 use native.Mathlib.Omega.{arith}
+use native.Mathlib.Nat.{one-le-pow}
 use lib.Dec.{leb, leb-suc-suc}
 use lib.IntN.{pos, negsuc, neg_ℤ}
 use lib.Signed.{le_z, lt_z}
-use borrow.Author.Tests.{le-leb, lt-leb, ltb-true}
+use borrow.Author.Tests.{le-leb, lt-leb, leb-true, ltb-true}
+use Rattle.numerals.specs.declared.signed.Signed.{Signed}
+use Rattle.numerals.specs.CodeSigned.{integer}
 use Rattle.encodings.specs.declared.forms.Encoding.{Encoding}
 use Rattle.encodings.specs.declared.forms.Encoding.TheVariants.{TwosComplement, OnesComplement, SignMagnitude, PackedDecimal}
 use Rattle.encodings.specs.Writing.{height, depth, in_range, pattern_of}
-use Rattle.encodings.specs.CodeSaid.{is_decimal, opposite_of}
-use Rattle.numerals.proofs.Halves.{halves}
+use Rattle.encodings.specs.CodeSaid.{opposite_of}
+use Rattle.encodings.proofs.Meaning.{is_decimal, widths, is_packed, opposite_lt}
+use Rattle.numerals.proofs.Halves.{halves, half_most}
 
 least_below : (d n : ℕ) → le_z (neg_ℤ (pos d)) (pos n) ≡ true
 least_below zero n = le-leb 0 n (omega arith)
@@ -30,6 +34,9 @@ module _ (e : Encoding) (width : ℕ) where
   unfolding in_range
   in_below zero = in_above 0 ∙ le-leb 0 (height e width) (omega arith) ∙ sym (le-leb 0 (depth e width) (omega arith))
   in_below (suc n) = and-true (le_z (neg_ℤ (pos (depth e width))) (negsuc n)) ∙ below_least (depth e width) n
+
+pub some_tens : (k : ℕ) → 1 ≤ 10 ^ k
+some_tens k = one-le-pow k 10 (omega arith)
 
 -- ---- the bits of a number
 
@@ -52,3 +59,14 @@ bits_above PackedDecimal width n s = absurd (true≢false s)
 pub below_some : (m : ℕ) → lt_z (neg_ℤ (pos m)) (pos 0) ≡ true → 0 < m
 below_some zero e = let l = ltb-true 0 0 e in omega arith
 below_some (suc m) e = omega arith
+
+-- a number below zero has a magnitude, which the depth allows
+pub deep : (e : Encoding) (width : ℕ) (s : Signed) → in_range e width (integer s) ≡ true → s.negative ≡ lt_z (integer s) (pos 0) → s.negative ≡ true
+    → (0 < s.magnitude) × (s.magnitude ≤ depth e width)
+deep e width s range sign negative =
+    let m = s.magnitude in
+    let inside = rw negative at range in
+    let below = rw negative at sign in
+    (below_some m (sym below), leb-true m _ (sym (in_below e width m) ∙ inside))
+
+pub ruleset written_laws = (widths, is_packed, opposite_lt, half_most, deep, bits_below, bits_above)

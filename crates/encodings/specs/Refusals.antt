@@ -1,7 +1,7 @@
 -- RULES 10, the numbers 59 and 60.
 use Rattle.std.specs.Prelude.{ℕ, not, [], ◌∷◌, ℤ}
 use Rattle.kinds.specs.declared.refusals.Refusal.TheVariants.{ValueOutOfRange, DigitAboveNine}
-use Rattle.kinds.specs.declared.refusals.Check.{Check}
+use Rattle.kinds.specs.Answers.{Check}
 use Rattle.kinds.specs.Outcomes.{rule, first_among}
 use Rattle.encodings.specs.declared.forms.Encoding.{Encoding}
 use Rattle.encodings.specs.Meaning.{legal_digits}

@@ -1,18 +1,16 @@
 -- RULES 14.1, 14.2: the codes of the encodings, and the widths and sizes that each allows.
-use Rattle.std.specs.Prelude.{ℕ, ◌%◌, Bool, true, cond, ◌&&◌, eqb, leb}
+use Rattle.std.specs.Prelude.{ℕ, ◌%◌, Bool, true, cond, ◌&&◌, eqb, leb, Option, Some, None}
 use Rattle.kinds.specs.Types.{bytes_for}
 use Rattle.encodings.specs.declared.forms.Encoding.{Encoding}
 use Rattle.encodings.specs.declared.forms.Encoding.TheVariants.{TwosComplement, OnesComplement, SignMagnitude, PackedDecimal}
-use Rattle.encodings.specs.declared.forms.OptionalEncoding.{OptionalEncoding}
-use Rattle.encodings.specs.declared.forms.OptionalEncoding.TheVariants.{Known, Unknown}
 
 -- the encoding that a code tells
-abbrev pub encoding_of : ℕ → OptionalEncoding
+abbrev pub encoding_of : ℕ → Option Encoding
 encoding_of code =
-    cond (eqb code 1) (Known TwosComplement)
-    (cond (eqb code 2) (Known OnesComplement)
-    (cond (eqb code 3) (Known SignMagnitude)
-    (cond (eqb code 4) (Known PackedDecimal) Unknown)))
+    cond (eqb code 1) (Some TwosComplement)
+    (cond (eqb code 2) (Some OnesComplement)
+    (cond (eqb code 3) (Some SignMagnitude)
+    (cond (eqb code 4) (Some PackedDecimal) None)))
 
 -- a decimal digit has four bits, and the widths of packed decimal are whole digits
 abbrev pub whole_digits : Encoding → ℕ → Bool

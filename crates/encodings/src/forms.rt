@@ -1,12 +1,12 @@
 // The four encodings by value: their codes, the widths and sizes that each allows, and how far its range goes.
-ghost use Rattle.std.specs.Prelude.{◌≡◌, true, ◌-◌};
-ghost use Rattle.encodings.specs.Widths.{encoding_of, allowed, fits};
+ghost use Rattle.std.specs.Prelude.{◌≡◌, true};
+ghost use Rattle.encodings.specs.Widths.{allowed, fits};
 ghost use Rattle.encodings.specs.Writing.{height, depth};
 
-use kinds::BitLength;
+use kinds::{BitLength, UnknownCode};
 use numerals::{high_bit, power_of_ten};
 
-#[derive(Clone, Copy)]
+#[derive(Clone, Copy, Debug, PartialEq, Eq)]
 pub enum Encoding {
     TwosComplement,
     OnesComplement,
@@ -14,63 +14,52 @@ pub enum Encoding {
     PackedDecimal,
 }
 
-// What a code tells.
-#[derive(Clone, Copy)]
-pub enum OptionalEncoding {
-    Known(Encoding),
-    Unknown,
-}
-
 // The encoding with a code.
-pub fn encoding_of(code: u32) -> OptionalEncoding
-    ensures { result ≡ encoding_of code }
-{
-    match code {
-        1 => OptionalEncoding::Known(Encoding::TwosComplement),
-        2 => OptionalEncoding::Known(Encoding::OnesComplement),
-        3 => OptionalEncoding::Known(Encoding::SignMagnitude),
-        4 => OptionalEncoding::Known(Encoding::PackedDecimal),
-        _ => OptionalEncoding::Unknown,
+impl TryFrom<u32> for Encoding {
+    type Error = UnknownCode;
+
+    ghost use Rattle.std.specs.Prelude.{◌≡◌, ok_or};
+    ghost use Rattle.kinds.specs.Codes.{unknown_code};
+    ghost use Rattle.encodings.specs.Widths.{encoding_of};
+
+    ghost try_from_gives = { λ code known. known ≡ ok_or (encoding_of code) unknown_code };
+
+    fn try_from(code: u32) -> Result<Encoding, UnknownCode> {
+        match code {
+            1 => Ok(Encoding::TwosComplement),
+            2 => Ok(Encoding::OnesComplement),
+            3 => Ok(Encoding::SignMagnitude),
+            4 => Ok(Encoding::PackedDecimal),
+            _ => Err(UnknownCode),
+        }
     }
 }
 
+// A width stays a parameter beside its encoding: a struct of both would hold that it is allowed, and a long slice is refused before that is known.
 impl Encoding {
     fn allows(self, width: usize) -> bool
         ensures { result ≡ allowed self width }
     {
-        if width < 2 {
-            return false;
-        }
-        if 64 < width {
-            return false;
-        }
-        match self {
-            Encoding::TwosComplement => true,
-            Encoding::OnesComplement => true,
-            Encoding::SignMagnitude => true,
-            Encoding::PackedDecimal => width % 4 == 0,
-        }
+        (2..=64).contains(&width) && (self != Encoding::PackedDecimal || width % 4 == 0)
     }
 
     // Whether a width is allowed, and so many bytes are what it takes.
     pub fn fits(self, width: usize, size: usize) -> bool
         ensures { result ≡ fits self width size }
     {
-        if self.allows(width) {
-            return size == BitLength(width as u32).byte_count().bytes();
-        }
-        false
+        self.allows(width) && size == BitLength(width as u32).byte_count().bytes()
     }
 
     // How far the range goes above zero.
+    #[tactic(auto, using(crate::proofs::Ranges::some_tens))]
     pub fn height(self, width: usize) -> u64
         requires { allowed self width ≡ true }
         ensures { result ≡ height self width }
     {
         match self {
-            Encoding::TwosComplement => high_bit(width) - 1,
-            Encoding::OnesComplement => high_bit(width) - 1,
-            Encoding::SignMagnitude => high_bit(width) - 1,
+            Encoding::TwosComplement | Encoding::OnesComplement | Encoding::SignMagnitude => {
+                high_bit(width) - 1
+            }
             Encoding::PackedDecimal => power_of_ten(width / 4) - 1,
         }
     }
@@ -82,8 +71,7 @@ impl Encoding {
     {
         match self {
             Encoding::TwosComplement => high_bit(width),
-            Encoding::OnesComplement => high_bit(width) - 1,
-            Encoding::SignMagnitude => high_bit(width) - 1,
+            Encoding::OnesComplement | Encoding::SignMagnitude => high_bit(width) - 1,
             Encoding::PackedDecimal => 0,
         }
     }

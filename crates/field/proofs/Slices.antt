@@ -4,11 +4,11 @@ use Prim.Native.Nat.{ℕ, ◌≤◌}
 use lib.Dec.{ltb}
 use borrow.Author.Tests.{ltb-false}
 use Rattle.kinds.specs.declared.refusals.Refusal.TheVariants.{SliceTooLong, UsedPastSlice}
-use Rattle.kinds.specs.declared.refusals.Check.TheVariants.{Passed}
 use Rattle.kinds.proofs.Outcomes.{rule_passed}
 use Rattle.field.specs.Refusals.{slices_refusal}
+use Rattle.kinds.specs.Answers.{passed}
 
-pub slices_fit : (bytes store a b used : ℕ) → slices_refusal bytes store a b used ≡ Passed → (store ≤ 32768) × (a ≤ 65535) × (b ≤ 65535) × (used ≤ b)
+pub slices_fit : (bytes store a b used : ℕ) → slices_refusal bytes store a b used ≡ passed → (store ≤ 32768) × (a ≤ 65535) × (b ≤ 65535) × (used ≤ b)
 slices_fit bytes store a b used e =
     let r = rule_passed (ltb 65535 bytes) SliceTooLong _ e in
     let s = rule_passed (ltb 32768 store) SliceTooLong _ r.1 in

@@ -2,17 +2,18 @@
 // refused before a call's own rules.
 #![tactic(auto)]
 
-ghost use Rattle.std.specs.Prelude.{◌≡◌, length};
+ghost use Rattle.std.specs.Prelude.{◌≡◌, length, OnOk};
 ghost use Rattle.kinds.specs.Slices.{place_behind};
-ghost use Rattle.field.specs.Field.{outside, part_of, part_at, start_of, start_at, store_place, use_at, use_of, shape_of};
-ghost use Rattle.field.specs.Refusals.{slices_refusal, place_refusal, description_refusal};
+ghost use Rattle.masks.specs.Mask.{mask_of};
+ghost use Rattle.field.specs.Field.{outside, part_of, part_at, start_of, start_at, store_place, mask_at, mask_in, shape_of, field_of, said_of};
+ghost use Rattle.field.specs.Refusals.{sizes_of, slices_refusal, Fit, place_refusal, description_refusal};
 
-use coded::{DiagCodedType, DiagCodedTypeVariant, MinMaxLengthType, OptionalPlace, Place};
-use kinds::{BitLength, ByteCount, Check, Refusal, SLICE_LIMIT, STORE_LIMIT};
-use masks::MaskUse;
+use coded::{DiagCodedType, DiagCodedTypeVariant, MinMaxLengthType, Place};
+use kinds::{BitLength, ByteCount, ByteOrder, DataType, Refusal, SLICE_LIMIT, STORE_LIMIT};
+use masks::Mask;
 
 // What a variant says, but for the parts of the store that it speaks of.
-#[derive(Clone, Copy)]
+#[derive(Clone, Copy, Debug, PartialEq, Eq)]
 pub enum Shape {
     Leading(BitLength),
     MinMax(MinMaxLengthType),
@@ -20,70 +21,82 @@ pub enum Shape {
     Param,
 }
 
-pub fn shape_of(type_: DiagCodedTypeVariant) -> Shape
+// A coded type with its store taken apart.
+#[derive(Clone, Copy)]
+pub struct Field<'a> {
+    pub base_datatype: DataType,
+    pub byte_order: ByteOrder,
+    pub shape: Shape,
+    pub mask: Mask<'a>,
+}
+
+impl<'a> Field<'a> {
+    // The mask of a field is a part of the store.
+    pub fn of(coded_type: DiagCodedType, store: &'a [u8]) -> Field<'a>
+        ensures { said_of result ≡ field_of coded_type store.now }
+    {
+        Field {
+            base_datatype: coded_type.base_datatype,
+            byte_order: coded_type
+                .base_datatype
+                .byte_order(coded_type.is_high_low_byte_order),
+            shape: shape_of(coded_type.type_),
+            mask: mask_in(store, coded_type.type_),
+        }
+    }
+}
+
+fn shape_of(type_: DiagCodedTypeVariant) -> Shape
     ensures { result ≡ shape_of type_ }
 {
     match type_ {
         DiagCodedTypeVariant::LeadingLengthInfo(bits) => Shape::Leading(bits),
         DiagCodedTypeVariant::MinMaxLength(limits) => Shape::MinMax(limits),
-        DiagCodedTypeVariant::StandardLength(standard) => {
-            let bits = standard.bit_length;
-            Shape::Standard(bits)
-        }
+        DiagCodedTypeVariant::StandardLength(standard) => Shape::Standard(standard.bit_length),
         DiagCodedTypeVariant::ParamLengthInfo(_) => Shape::Param,
     }
 }
 
 // The part of the store that a variant speaks of.
-fn store_place(type_: DiagCodedTypeVariant) -> OptionalPlace
+fn store_place(type_: DiagCodedTypeVariant) -> Option<Place>
     ensures { result ≡ store_place type_ }
 {
     match type_ {
-        DiagCodedTypeVariant::LeadingLengthInfo(_) => OptionalPlace::Absent,
-        DiagCodedTypeVariant::MinMaxLength(_) => OptionalPlace::Absent,
+        DiagCodedTypeVariant::LeadingLengthInfo(_) | DiagCodedTypeVariant::MinMaxLength(_) => None,
         DiagCodedTypeVariant::StandardLength(standard) => standard.bit_mask,
-        DiagCodedTypeVariant::ParamLengthInfo(name) => OptionalPlace::At(name),
+        DiagCodedTypeVariant::ParamLengthInfo(name) => Some(name),
     }
 }
 
-// What a field does with the mask at an optional place.
-fn use_at(place: OptionalPlace, condensed: bool) -> MaskUse
-    ensures { result ≡ use_at place condensed }
+// The mask at a place of the store.
+fn mask_at<'a>(store: &'a [u8], place: Place, condensed: bool) -> Mask<'a>
+    ensures { mask_of result ≡ mask_at store.now (Some place) condensed }
 {
-    match place {
-        OptionalPlace::At(_) => {
-            if condensed {
-                return MaskUse::Condensed;
-            }
-            MaskUse::Plain
-        }
-        OptionalPlace::Absent => MaskUse::Absent,
+    let mask = part(store, place);
+    if condensed {
+        Mask::Condensed(mask)
+    } else {
+        Mask::Plain(mask)
     }
 }
 
-pub fn use_of(type_: DiagCodedTypeVariant) -> MaskUse
-    ensures { result ≡ use_of type_ }
+fn mask_in<'a>(store: &'a [u8], type_: DiagCodedTypeVariant) -> Mask<'a>
+    ensures { mask_of result ≡ mask_in store.now type_ }
 {
     match type_ {
-        DiagCodedTypeVariant::LeadingLengthInfo(_) => MaskUse::Absent,
-        DiagCodedTypeVariant::MinMaxLength(_) => MaskUse::Absent,
-        DiagCodedTypeVariant::StandardLength(standard) => {
-            let bit_mask = standard.bit_mask;
-            use_at(bit_mask, standard.condensed)
-        }
-        DiagCodedTypeVariant::ParamLengthInfo(_) => MaskUse::Absent,
+        DiagCodedTypeVariant::StandardLength(standard) => match standard.bit_mask {
+            Some(place) => mask_at(store, place, standard.condensed),
+            None => Mask::Absent,
+        },
+        _ => Mask::Absent,
     }
 }
 
 fn is_outside(place: Place, store_len: ByteCount) -> bool
     ensures { result ≡ outside place store_len.0 }
 {
-    let at = place.at;
     let end = store_len.bytes();
-    if end < at {
-        return true;
-    }
-    end - at < place.len.bytes()
+    end < place.at || end - place.at < place.len.bytes()
 }
 
 // A part of the store, lent on, and the empty part where it is outside.
@@ -94,80 +107,81 @@ fn part<'a>(store: &'a [u8], place: Place) -> &'a [u8]
     if is_outside(place, ByteCount(store.len())) {
         return &store[..0];
     }
-    let at = place.at;
-    let end = at + place.len.bytes();
-    &store[at..end]
+    &store[place.at..place.at + place.len.bytes()]
 }
 
 // The part of the store at an optional place, and the empty part where there is none.
-pub fn part_at<'a>(store: &'a [u8], place: OptionalPlace) -> &'a [u8]
+pub fn part_at<'a>(store: &'a [u8], place: Option<Place>) -> &'a [u8]
     ensures result_value { result.now ≡ part_at store.now place }
     ensures ref_ptr_value { result.ref_ptr ≡ place_behind (start_at (length store.now) place) store.entry.ref_ptr }
 {
     match place {
-        OptionalPlace::At(there) => part(store, there),
-        OptionalPlace::Absent => &store[..0],
+        Some(there) => part(store, there),
+        None => &store[..0],
     }
 }
 
-// The part of the store that a variant speaks of: a mask where its use is not absent.
-pub fn store_part<'a>(store: &'a [u8], type_: DiagCodedTypeVariant) -> &'a [u8]
-    ensures { result.now ≡ part_at store.now (store_place type_) }
-{
-    part_at(store, store_place(type_))
+// How many bytes a call lends beside a record: a store and two other slices, with so many used of the last. Where a call lends
+// fewer, or none is used, the numbers are 0.
+#[derive(Clone, Copy, Debug, PartialEq, Eq)]
+pub struct Sizes {
+    pub store_len: ByteCount,
+    pub first_len: ByteCount,
+    pub second_len: ByteCount,
+    pub used: usize,
 }
 
-// 43 of a record, a store and two other slices, and 44 of the last of them, with so many bytes used. Where a call lends fewer, or
-// none is used, the numbers are 0.
-pub fn validate_slices(
-    record_len: ByteCount,
-    store_len: ByteCount,
-    first_len: ByteCount,
-    second_len: ByteCount,
-    used: usize,
-) -> Check
-    ensures { result ≡ slices_refusal record_len.0 store_len.0 first_len.0 second_len.0 used }
+impl Sizes {
+    pub fn of(store: &[u8], first: &[u8], second: &[u8], used: usize) -> Sizes
+        ensures { result ≡ sizes_of store.now first.now second.now used }
+    {
+        Sizes {
+            store_len: ByteCount(store.len()),
+            first_len: ByteCount(first.len()),
+            second_len: ByteCount(second.len()),
+            used,
+        }
+    }
+}
+
+// 43 of a record and of each other slice, and 44 of the last of them.
+#[tactic(auto, using(crate::proofs::Slices::slices_fit))]
+pub fn validate_slices(record_len: ByteCount, sizes: Sizes) -> Result<(), Refusal>
+    ensures result_value { result ≡ slices_refusal record_len.0 sizes.store_len.0 sizes.first_len.0 sizes.second_len.0 sizes.used }
+    ensures fits { OnOk result (Fit sizes) }
 {
     if SLICE_LIMIT < record_len.bytes() {
-        return Check::Refused(Refusal::SliceTooLong);
+        return Err(Refusal::SliceTooLong);
     }
-    if STORE_LIMIT < store_len.bytes() {
-        return Check::Refused(Refusal::SliceTooLong);
+    if STORE_LIMIT < sizes.store_len.bytes() {
+        return Err(Refusal::SliceTooLong);
     }
-    if SLICE_LIMIT < first_len.bytes() {
-        return Check::Refused(Refusal::SliceTooLong);
+    if SLICE_LIMIT < sizes.first_len.bytes() {
+        return Err(Refusal::SliceTooLong);
     }
-    if SLICE_LIMIT < second_len.bytes() {
-        return Check::Refused(Refusal::SliceTooLong);
+    if SLICE_LIMIT < sizes.second_len.bytes() {
+        return Err(Refusal::SliceTooLong);
     }
-    if second_len.bytes() < used {
-        return Check::Refused(Refusal::UsedPastSlice);
+    if sizes.second_len.bytes() < sizes.used {
+        return Err(Refusal::UsedPastSlice);
     }
-    Check::Passed
+    Ok(())
 }
 
 // 42, of the part of the store that a coded type speaks of.
-fn validate_place(place: OptionalPlace, store_len: ByteCount) -> Check
+fn validate_place(place: Option<Place>, store_len: ByteCount) -> Result<(), Refusal>
     ensures { result ≡ place_refusal place store_len.0 }
 {
     match place {
-        OptionalPlace::At(there) => {
-            if is_outside(there, store_len) {
-                return Check::Refused(Refusal::MalformedRecord);
-            }
-            Check::Passed
-        }
-        OptionalPlace::Absent => Check::Passed,
+        Some(there) if is_outside(there, store_len) => Err(Refusal::MalformedRecord),
+        _ => Ok(()),
     }
 }
 
 // 42, 12, 13, 10 and 11, however the coded type was made.
-pub fn validate_description(coded_type: DiagCodedType, store_len: ByteCount) -> Check
+pub fn validate_description(coded_type: DiagCodedType, store_len: ByteCount) -> Result<(), Refusal>
     ensures { result ≡ description_refusal coded_type store_len.0 }
 {
-    let type_ = coded_type.type_;
-    match validate_place(store_place(type_), store_len) {
-        Check::Refused(refusal) => Check::Refused(refusal),
-        Check::Passed => coded_type.validate(),
-    }
+    validate_place(store_place(coded_type.type_), store_len)?;
+    coded_type.validate()
 }

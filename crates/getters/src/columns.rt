@@ -5,23 +5,27 @@ pub fn number(rt: &impl Print, n: u32) -> io::Result<()> {
     print!(rt; " {n}")
 }
 
+// The number, or a minus.
+pub fn optional(rt: &impl Print, n: Option<u32>) -> io::Result<()> {
+    match n {
+        Some(n) => number(rt, n),
+        None => absent(rt),
+    }
+}
+
 pub fn absent(rt: &impl Print) -> io::Result<()> {
-    rt.write_all(b" -")
+    print!(rt; " -")
 }
 
 pub fn end(rt: &impl Print) -> io::Result<()> {
-    rt.write_all(b"\n")
-}
-
-fn byte(rt: &impl Print, byte: u8) -> io::Result<()> {
-    print!(rt; "{byte:02x}")
+    println!(rt;)
 }
 
 // In brackets, so that no bytes are told from nothing.
 pub fn bytes(rt: &impl Print, bytes: &[u8]) -> io::Result<()> {
-    rt.write_all(b" [")?;
-    for i in 0..bytes.len() {
-        byte(rt, bytes[i])?;
+    print!(rt; " [")?;
+    for byte in bytes {
+        print!(rt; "{byte:02x}")?;
     }
-    rt.write_all(b"]")
+    print!(rt; "]")
 }

@@ -1,56 +1,27 @@
 // The two lines of what a record says, made once more by `new` and by the `new` for high-low: a number, and where that is 0 what
 // the getters say.
-use super::columns::{absent, bytes, end, number};
-use coded::{
-    Built, DiagCodedType, DiagCodedTypeVariant, MaxLength, MinMaxBuilt, MinMaxLengthType,
-    OptionalBitLength, OptionalPlace, Termination,
-};
-use kinds::DataType;
+use super::columns::{absent, bytes, end, number, optional};
+use coded::{DiagCodedType, DiagCodedTypeVariant, MinMaxLengthType, Place};
+use kinds::Refusal;
 use std::io;
-
-fn termination_code(termination: Termination) -> u32 {
-    match termination {
-        Termination::EndOfPdu => 1,
-        Termination::Zero => 2,
-        Termination::HexFF => 3,
-    }
-}
-
-fn type_code(data_type: DataType) -> u32 {
-    match data_type {
-        DataType::Int32 => 1,
-        DataType::UInt32 => 2,
-        DataType::Float32 => 3,
-        DataType::AsciiString => 4,
-        DataType::Utf8String => 5,
-        DataType::Unicode2String => 6,
-        DataType::ByteField => 7,
-        DataType::Float64 => 8,
-    }
-}
 
 // What `new` says of the limits, and where it makes them their getters.
 fn show_limits(rt: &impl Print, given: MinMaxLengthType) -> io::Result<()> {
-    let max_length = given.max_length();
-    let termination = given.termination();
-    match MinMaxLengthType::new(given.min_length(), max_length, termination) {
-        MinMaxBuilt::Refused(refusal) => number(rt, refusal.number()),
-        MinMaxBuilt::Made(limits) => {
+    match MinMaxLengthType::new(given.min_length(), given.max_length(), given.termination()) {
+        Err(refusal) => number(rt, refusal.number()),
+        Ok(limits) => {
             number(rt, 0)?;
             number(rt, limits.min_length())?;
-            match limits.max_length() {
-                MaxLength::Most(most) => number(rt, most)?,
-                MaxLength::Unlimited => absent(rt)?,
-            }
-            number(rt, termination_code(limits.termination()))
+            optional(rt, limits.max_length())?;
+            number(rt, u32::from(u8::from(limits.termination())))
         }
     }
 }
 
-fn show_part(rt: &impl Print, store: &[u8], place: OptionalPlace) -> io::Result<()> {
+fn show_part(rt: &impl Print, store: &[u8], place: Option<Place>) -> io::Result<()> {
     match place {
-        OptionalPlace::At(_) => bytes(rt, field::part_at(store, place)),
-        OptionalPlace::Absent => absent(rt),
+        Some(_) => bytes(rt, field::part_at(store, place)),
+        None => absent(rt),
     }
 }
 
@@ -66,46 +37,47 @@ fn show_type(rt: &impl Print, type_: DiagCodedTypeVariant, store: &[u8]) -> io::
             show_limits(rt, limits)
         }
         DiagCodedTypeVariant::StandardLength(standard) => {
-            let bit_length = standard.bit_length;
-            let bit_mask = standard.bit_mask;
             number(rt, 3)?;
-            number(rt, bit_length.number())?;
-            number(rt, standard.condensed as u32)?;
-            show_part(rt, store, bit_mask)
+            number(rt, standard.bit_length.number())?;
+            number(rt, u32::from(standard.condensed))?;
+            show_part(rt, store, standard.bit_mask)
         }
         DiagCodedTypeVariant::ParamLengthInfo(name) => {
             number(rt, 4)?;
-            show_part(rt, store, OptionalPlace::At(name))
+            show_part(rt, store, Some(name))
         }
     }
 }
 
-// `length_key_place` tells whether there is a name, and `length_key_name` has it and a number.
+// A number, and then the name where there is one: `length_key_place` tells.
 fn show_key_name(rt: &impl Print, coded_type: DiagCodedType, store: &[u8]) -> io::Result<()> {
-    let mut refusal = 0;
-    let name = calls::length_key_name(coded_type, store, &mut refusal);
+    let (refusal, name): (u32, &[u8]) = match calls::length_key_name(coded_type, store) {
+        Ok(name) => (0, name),
+        Err(refusal) => (refusal.number(), &[]),
+    };
     number(rt, refusal)?;
     match coded_type.length_key_place() {
-        OptionalPlace::At(_) => bytes(rt, name),
-        OptionalPlace::Absent => absent(rt),
+        Some(_) => bytes(rt, name),
+        None => absent(rt),
     }
 }
 
 fn show_getters(rt: &impl Print, coded_type: DiagCodedType, store: &[u8]) -> io::Result<()> {
-    number(rt, type_code(coded_type.base_datatype()))?;
-    number(rt, coded_type.is_high_low_byte_order as u32)?;
-    match coded_type.bit_len() {
-        OptionalBitLength::Bits(bits) => number(rt, bits.number())?,
-        OptionalBitLength::Variable => absent(rt)?,
-    }
+    number(rt, u32::from(u8::from(coded_type.base_datatype())))?;
+    number(rt, u32::from(coded_type.is_high_low_byte_order))?;
+    optional(rt, coded_type.bit_len().map(|bits| bits.number()))?;
     show_key_name(rt, coded_type, store)?;
     show_type(rt, coded_type.type_(), store)
 }
 
-fn show_built(rt: &impl Print, built: Built, store: &[u8]) -> io::Result<()> {
+fn show_built(
+    rt: &impl Print,
+    built: Result<DiagCodedType, Refusal>,
+    store: &[u8],
+) -> io::Result<()> {
     match built {
-        Built::Refused(refusal) => number(rt, refusal.number())?,
-        Built::Made(coded_type) => {
+        Err(refusal) => number(rt, refusal.number())?,
+        Ok(coded_type) => {
             number(rt, 0)?;
             show_getters(rt, coded_type, store)?;
         }

@@ -4,14 +4,13 @@
 mod columns; // columns.rt: what a line is made of
 mod lines; // lines.rt: the lines of what a record says
 
-use record::OptionalCoded;
 use std::io;
 use std::io::{ErrorKind, Read};
 
 fn show(rt: &impl Print, bytes: &[u8], store: &[u8]) -> io::Result<()> {
     match record::parse(bytes) {
-        OptionalCoded::Malformed => columns::end(rt),
-        OptionalCoded::Coded(coded_type) => lines::show(rt, coded_type, store),
+        None => columns::end(rt),
+        Some(coded_type) => lines::show(rt, coded_type, store),
     }
 }
 
@@ -19,13 +18,8 @@ fn show(rt: &impl Print, bytes: &[u8], store: &[u8]) -> io::Result<()> {
 fn filled<R: Read>(input: &mut R, buffer: &mut [u8]) -> io::Result<bool> {
     match input.read_exact(buffer) {
         Ok(()) => Ok(true),
-        Err(error) => {
-            if error.kind() == ErrorKind::UnexpectedEof {
-                Ok(false)
-            } else {
-                Err(error)
-            }
-        }
+        Err(error) if error.kind() == ErrorKind::UnexpectedEof => Ok(false),
+        Err(error) => Err(error),
     }
 }
 
@@ -33,10 +27,7 @@ fn filled<R: Read>(input: &mut R, buffer: &mut [u8]) -> io::Result<bool> {
 fn shown<R: Read>(rt: &impl Print, input: &mut R) -> io::Result<bool> {
     let mut bytes = [0u8; 16];
     let mut store = [0u8; 32];
-    if !filled(input, &mut bytes)? {
-        return Ok(false);
-    }
-    if !filled(input, &mut store)? {
+    if !filled(input, &mut bytes)? || !filled(input, &mut store)? {
         return Ok(false);
     }
     show(rt, &bytes, &store)?;
@@ -46,9 +37,7 @@ fn shown<R: Read>(rt: &impl Print, input: &mut R) -> io::Result<bool> {
 fn main(rt: HostRuntime) -> io::Result<()> {
     let mut input = rt.stdin();
     // A proved loop has to end, and nothing says that the input does.
-    let mut turns = u64::MAX;
-    while turns > 0 {
-        turns -= 1;
+    for _ in 0..u64::MAX {
         if !shown(&rt, &mut input)? {
             break;
         }

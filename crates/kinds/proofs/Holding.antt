@@ -2,8 +2,8 @@
 use mathlib.Core.Path.{◌≡◌, refl}
 use mathlib.Core.Bool.{Bool, true, false}
 use Prim.Native.Nat.{ℕ}
-use Rattle.kinds.specs.declared.refusals.Check.{Check}
-use Rattle.kinds.specs.declared.refusals.Check.TheVariants.{Passed, Refused}
+use Rattle.std.specs.Prelude.{Ok, Err}
+use Rattle.kinds.specs.Answers.{Check}
 use Rattle.kinds.specs.Outcomes.{Outcome, gives, lacks, refuses, after, unless_short, following}
 
 abbrev pub Holds : {A : Type 0} → (A → Type 0) → Outcome A → Type 0
@@ -13,8 +13,8 @@ Holds P (refuses r) = Unit {0}
 
 module _ {A : Type 0} (P : A → Type 0) where
   pub holds_after : (c : Check) (o : Outcome A) → Holds P o → Holds P (after c o)
-  holds_after Passed o h = h
-  holds_after (Refused r) o h = tt
+  holds_after (Ok done) o h = h
+  holds_after (Err r) o h = tt
 
   pub holds_short : (t : Bool) (e a : ℕ) (o : Outcome A) → Holds P o → Holds P (unless_short t e a o)
   holds_short true e a o h = tt

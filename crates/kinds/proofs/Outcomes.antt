@@ -3,8 +3,8 @@ use mathlib.Core.Path.{◌≡◌, refl, sym, ap}
 use Prim.Native.Nat.{ℕ}
 use mathlib.Core.Bool.{Bool, true, false, cond, ◌||◌, ◌&&◌, true≢false}
 use Rattle.kinds.specs.declared.refusals.Refusal.{Refusal}
-use Rattle.kinds.specs.declared.refusals.Check.{Check}
-use Rattle.kinds.specs.declared.refusals.Check.TheVariants.{Passed, Refused}
+use Rattle.std.specs.Prelude.{Ok, Err}
+use Rattle.kinds.specs.Answers.{Check, passed}
 use native.Mathlib.Omega.{arith}
 use Rattle.kinds.specs.Outcomes.{or_else, Outcome, gives, after, unless_short, following}
 
@@ -20,40 +20,40 @@ both false b e = absurd (true≢false (sym e))
 
 -- a refusal is not a pass
 abbrev passes : Check → Bool
-passes Passed = true
-passes (Refused r) = false
+passes (Ok done) = true
+passes (Err r) = false
 
-never : {r : Refusal} → Refused r ≡ Passed → ⊥
+never : {r : Refusal} → Err r ≡ passed → ⊥
 never e = true≢false (sym (ap passes e))
 
 -- where nothing is refused, no rule holds, and each check passes
-pub rule_passed : (t : Bool) (r : Refusal) (next : Check) → cond t (Refused r) next ≡ Passed → (t ≡ false) × (next ≡ Passed)
+pub rule_passed : (t : Bool) (r : Refusal) (next : Check) → cond t (Err r) next ≡ passed → (t ≡ false) × (next ≡ passed)
 rule_passed true r next e = absurd (never e)
 rule_passed false r next e = (refl, e)
 
-pub or_else_passed : (a b : Check) → or_else a b ≡ Passed → (a ≡ Passed) × (b ≡ Passed)
-or_else_passed Passed b e = (refl, e)
-or_else_passed (Refused r) b e = absurd (never e)
+pub or_else_passed : (a b : Check) → or_else a b ≡ passed → (a ≡ passed) × (b ≡ passed)
+or_else_passed (Ok done) b e = (refl, e)
+or_else_passed (Err r) b e = absurd (never e)
 
 -- what is refused first is refused whatever follows
 pub following-after : {A B : Type 0} (c : Check) (o : Outcome A) (next : A → Outcome B) → following (after c o) next ≡ after c (following o next)
-following-after Passed o next = refl
-following-after (Refused r) o next = refl
+following-after (Ok done) o next = refl
+following-after (Err r) o next = refl
 
 pub following-short : {A B : Type 0} (t : Bool) (e a : ℕ) (o : Outcome A) (next : A → Outcome B) → following (unless_short t e a o) next ≡ unless_short t e a (following o next)
 following-short true e a o next = refl
 following-short false e a o next = refl
 
 -- and what comes next matters only where nothing was refused
-pub after_ext : {A : Type 0} (c : Check) (o o' : Outcome A) → (c ≡ Passed → o ≡ o') → after c o ≡ after c o'
-after_ext Passed o o' f = f refl
-after_ext (Refused r) o o' f = refl
+pub after_ext : {A : Type 0} (c : Check) (o o' : Outcome A) → (c ≡ passed → o ≡ o') → after c o ≡ after c o'
+after_ext (Ok done) o o' f = f refl
+after_ext (Err r) o o' f = refl
 
 pub short_ext : {A : Type 0} (t : Bool) (e a : ℕ) (o o' : Outcome A) → (t ≡ false → o ≡ o') → unless_short t e a o ≡ unless_short t e a o'
 short_ext true e a o o' f = refl
 short_ext false e a o o' f = f refl
 
 -- what was made was not refused before
-pub made_passed : {A : Type 0} (c : Check) (o : Outcome A) {a : A} → gives a ≡ after c o → c ≡ Passed
-made_passed Passed o e = refl
-made_passed (Refused r) o e = let z : ◌≡◌ {A = ℕ} 0 1 = cc in absurd (omega arith)
+pub made_passed : {A : Type 0} (c : Check) (o : Outcome A) {a : A} → gives a ≡ after c o → c ≡ passed
+made_passed (Ok done) o e = refl
+made_passed (Err r) o e = let z : ◌≡◌ {A = ℕ} 0 1 = cc in absurd (omega arith)

@@ -1,13 +1,11 @@
 -- RULES 10: the number of each refusal, and what each answer reports.
-use Rattle.std.specs.Prelude.{ℕ, List, [], ◌∷◌}
+use Rattle.std.specs.Prelude.{ℕ, ◌*◌, List, [], ◌∷◌, length, Result, Ok, Err}
 use Rattle.kinds.specs.declared.refusals.Refusal.{Refusal}
 use Rattle.kinds.specs.declared.refusals.Refusal.TheVariants.{NumericWithVariableLength, OddUnicodeLimits, ZeroMaximum, MaximumBelowMinimum, ByteTypeAtBitPosition, ZeroBitLength, IntegerTooLong, Float32Length, Float64Length, UnicodeLength, BitPositionAboveSeven, BitsPastCut, LengthFieldPastPayload, LengthFieldTooWide, CountTooLarge, ScanPastPayload, EmptyUntilEndOfPdu, MaskLongerThanLength, RuntimeLengthNeeded, EmptyLengthField, NotClearable, PayloadLacksRoom, OutputLacksRoom, MalformedRecord, SliceTooLong, UsedPastSlice, MalformedTable, WidthNotAllowed, ValueOutOfRange, DigitAboveNine}
-use Rattle.kinds.specs.declared.refusals.Check.{Check}
-use Rattle.kinds.specs.declared.refusals.Check.TheVariants as check
-use Rattle.kinds.specs.declared.refusals.Reading.{Reading}
-use Rattle.kinds.specs.declared.refusals.Reading.TheVariants as reading
-use Rattle.kinds.specs.declared.refusals.Writing.{Writing}
-use Rattle.kinds.specs.declared.refusals.Writing.TheVariants as writing
+use Rattle.kinds.specs.declared.refusals.Failure.{Failure}
+use Rattle.kinds.specs.declared.refusals.Failure.TheVariants as failure
+use Rattle.kinds.specs.declared.refusals.Counts.{Counts}
+use Rattle.kinds.specs.declared.lent.Lent.{Lent}
 
 -- the table of refusals, but for 30
 abbrev pub number_of : Refusal → ℕ
@@ -67,16 +65,41 @@ read bits bytes = 0 ∷ bits ∷ bytes ∷ 0 ∷ 0 ∷ []
 abbrev pub wrote : List ℕ
 wrote = numbered 0
 
+-- the answer of a check, of a reading, and of a writing or a clearing
+abbrev pub Check : Type 0
+Check = Result (Unit {0}) Refusal
+
+abbrev pub Reading : Type 0
+Reading = Result Counts Failure
+
+abbrev pub Writing : Type 0
+Writing = Result (Unit {0}) Failure
+
+abbrev pub passed : Check
+passed = Ok tt
+
 abbrev pub report_of_check : Check → List ℕ
-report_of_check check.Passed = wrote
-report_of_check (check.Refused r) = refused r
+report_of_check (Ok done) = wrote
+report_of_check (Err r) = refused r
+
+-- what a success has counted is read off it
+abbrev pub report_by : {A : Type 0} → (A → Counts) → Result A Failure → List ℕ
+report_by counts (Ok given) = read (counts given).bit_count.0 (counts given).byte_count.0
+report_by counts (Err (failure.NotEnoughData e a)) = short e a
+report_by counts (Err (failure.Refused r)) = refused r
 
 abbrev pub report_of_reading : Reading → List ℕ
-report_of_reading (reading.Read bits bytes) = read bits.0 bytes.0
-report_of_reading (reading.NotEnoughData e a) = short e a
-report_of_reading (reading.Refused r) = refused r
+report_of_reading = report_by (λ counts. counts)
+
+-- of a part of a payload that is handed back
+abbrev pub counts_of_lent : Lent → Counts
+counts_of_lent part = record { bit_count = record { 0 = 8 * length part.bytes.now }; byte_count = record { 0 = length part.bytes.now } }
+
+abbrev pub report_of_part : Result Lent Failure → List ℕ
+report_of_part = report_by counts_of_lent
+
+abbrev pub no_counts : Counts
+no_counts = record { bit_count = record { 0 = 0 }; byte_count = record { 0 = 0 } }
 
 abbrev pub report_of_writing : Writing → List ℕ
-report_of_writing writing.Written = wrote
-report_of_writing (writing.NotEnoughData e a) = short e a
-report_of_writing (writing.Refused r) = refused r
+report_of_writing = report_by (λ done. no_counts)

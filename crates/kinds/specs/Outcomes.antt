@@ -1,9 +1,7 @@
 -- Refusals in an order, what is made or refused, and the answer of a call: the words in which every call is defined.
-use Rattle.std.specs.Prelude.{ℕ, Bool, cond, List, [], ◌∷◌}
+use Rattle.std.specs.Prelude.{ℕ, Bool, cond, List, [], ◌∷◌, Result, Ok, Err}
 use Rattle.kinds.specs.declared.refusals.Refusal.{Refusal}
-use Rattle.kinds.specs.declared.refusals.Check.{Check}
-use Rattle.kinds.specs.declared.refusals.Check.TheVariants.{Passed, Refused}
-use Rattle.kinds.specs.Answers.{refused, short}
+use Rattle.kinds.specs.Answers.{Check, passed, refused, short}
 
 -- a test, and the refusal that is given where it holds
 pub record Rule : Type 0 where
@@ -15,13 +13,13 @@ rule t r = record { test = t; refusal = r }
 
 -- the refusal of the first rule whose test holds
 abbrev pub first_among : List Rule → Check
-first_among [] = Passed
-first_among (r ∷ rs) = cond r.test (Refused r.refusal) (first_among rs)
+first_among [] = passed
+first_among (r ∷ rs) = cond r.test (Err r.refusal) (first_among rs)
 
 -- one check, or the next where it passes
 abbrev pub or_else : Check → Check → Check
-or_else Passed next = next
-or_else (Refused r) next = Refused r
+or_else (Ok done) next = next
+or_else (Err r) next = Err r
 
 -- what is made; or 30 with what was expected and what there is; or another refusal
 pub data Outcome (A : Type 0) : Type 0 where
@@ -29,10 +27,15 @@ pub data Outcome (A : Type 0) : Type 0 where
   lacks : ℕ → ℕ → Outcome A
   refuses : Refusal → Outcome A
 
+-- what the code makes, or refuses
+abbrev pub outcome_of : {A : Type 0} → Result A Refusal → Outcome A
+outcome_of (Ok made) = gives made
+outcome_of (Err r) = refuses r
+
 -- a check first, and what comes next where it passes
 abbrev pub after : {A : Type 0} → Check → Outcome A → Outcome A
-after Passed next = next
-after (Refused r) next = refuses r
+after (Ok done) next = next
+after (Err r) next = refuses r
 
 -- 30 first, where the test holds
 abbrev pub unless_short : {A : Type 0} → Bool → ℕ → ℕ → Outcome A → Outcome A

@@ -3,7 +3,7 @@ use Rattle.std.specs.Prelude.{ℕ, ◌%◌, not, ◌&&◌, [], ◌∷◌, eqb, l
 use Rattle.kinds.specs.declared.types.DataType.{DataType}
 use Rattle.kinds.specs.declared.types.DataType.TheVariants.{Int32, UInt32, Float32, Float64}
 use Rattle.kinds.specs.declared.refusals.Refusal.TheVariants.{ByteTypeAtBitPosition, ZeroBitLength, IntegerTooLong, Float32Length, Float64Length, UnicodeLength}
-use Rattle.kinds.specs.declared.refusals.Check.{Check}
+use Rattle.kinds.specs.Answers.{Check}
 use Rattle.kinds.specs.Types.{among, is_byte_type, is_unicode_type}
 use Rattle.kinds.specs.Outcomes.{rule, first_among}
 

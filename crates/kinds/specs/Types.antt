@@ -1,5 +1,5 @@
 -- RULES 2.1, 3.4: the byte types, and what becomes of the order of bytes.
-use Rattle.std.specs.Prelude.{ℕ, ◌+◌, ◌/◌, Bool, false, cond, not, ◌||◌, List, [], ◌∷◌, eqb}
+use Rattle.std.specs.Prelude.{ℕ, ◌+◌, ◌/◌, Bool, false, cond, not, ◌||◌, List, [], ◌∷◌, eqb, Option, Some, None}
 use Rattle.kinds.specs.declared.types.DataType.{DataType}
 use Rattle.kinds.specs.declared.types.DataType.TheVariants.{Int32, UInt32, Float32, AsciiString, Utf8String, Unicode2String, ByteField, Float64}
 use Rattle.kinds.specs.declared.types.ByteOrder.{ByteOrder}
@@ -15,6 +15,18 @@ type_code_of Utf8String = 5
 type_code_of Unicode2String = 6
 type_code_of ByteField = 7
 type_code_of Float64 = 8
+
+-- type 1 to 8 in the order of RULES 2.1
+abbrev pub type_of : ℕ → Option DataType
+type_of code =
+    cond (eqb code 1) (Some Int32)
+    (cond (eqb code 2) (Some UInt32)
+    (cond (eqb code 3) (Some Float32)
+    (cond (eqb code 4) (Some AsciiString)
+    (cond (eqb code 5) (Some Utf8String)
+    (cond (eqb code 6) (Some Unicode2String)
+    (cond (eqb code 7) (Some ByteField)
+    (cond (eqb code 8) (Some Float64) None)))))))
 
 -- t is one of these types
 abbrev pub among : DataType → List DataType → Bool

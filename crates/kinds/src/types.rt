@@ -5,35 +5,76 @@ ghost use Rattle.kinds.specs.Outcomes.{rule, first_among};
 ghost use Rattle.kinds.specs.Slices.{saturating_sum};
 ghost use Rattle.kinds.specs.Refusals.{bit_position_refusal, bit_length_refusal};
 
-use super::refusals::{Check, Refusal};
+use super::refusals::Refusal;
 
 // A slice that a call is lent has at most so many bytes, and a store of masks and key names fewer.
 pub const SLICE_LIMIT: usize = 65535;
 
 pub const STORE_LIMIT: usize = 32768;
 
-#[derive(Clone, Copy)]
+// The data types, by the codes of a record.
+#[derive(Clone, Copy, Debug, PartialEq, Eq)]
 pub enum DataType {
-    Int32,
-    UInt32,
-    Float32,
-    AsciiString,
-    Utf8String,
-    Unicode2String,
-    ByteField,
-    Float64,
+    Int32 = 1,
+    UInt32 = 2,
+    Float32 = 3,
+    AsciiString = 4,
+    Utf8String = 5,
+    Unicode2String = 6,
+    ByteField = 7,
+    Float64 = 8,
+}
+
+// A code that no data type has, nor whatever else a record tells by a code.
+#[derive(Clone, Copy, Debug, PartialEq, Eq)]
+pub struct UnknownCode;
+
+// A data type's code in a record.
+impl From<DataType> for u8 {
+    ghost use Rattle.std.specs.Prelude.{◌≡◌};
+    ghost use Rattle.kinds.specs.Types.{type_code_of};
+
+    ghost from_gives = { λ data_type code. code ≡ type_code_of data_type };
+
+    fn from(data_type: DataType) -> u8 {
+        data_type as u8
+    }
+}
+
+impl TryFrom<u8> for DataType {
+    type Error = UnknownCode;
+
+    ghost use Rattle.std.specs.Prelude.{◌≡◌, ok_or};
+    ghost use Rattle.kinds.specs.Types.{type_of};
+    ghost use Rattle.kinds.specs.Codes.{unknown_code};
+
+    ghost try_from_gives = { λ code known. known ≡ ok_or (type_of code) unknown_code };
+
+    fn try_from(code: u8) -> Result<DataType, UnknownCode> {
+        match code {
+            1 => Ok(DataType::Int32),
+            2 => Ok(DataType::UInt32),
+            3 => Ok(DataType::Float32),
+            4 => Ok(DataType::AsciiString),
+            5 => Ok(DataType::Utf8String),
+            6 => Ok(DataType::Unicode2String),
+            7 => Ok(DataType::ByteField),
+            8 => Ok(DataType::Float64),
+            _ => Err(UnknownCode),
+        }
+    }
 }
 
 // A length in bits, as a description gives it or a reading counts it.
-#[derive(Clone, Copy)]
+#[derive(Clone, Copy, Debug, PartialEq, Eq)]
 pub struct BitLength(pub u32);
 
 // A length in bytes.
-#[derive(Clone, Copy)]
+#[derive(Clone, Copy, Debug, PartialEq, Eq)]
 pub struct ByteCount(pub usize);
 
 // What becomes of the order of a run of bytes.
-#[derive(Clone, Copy)]
+#[derive(Clone, Copy, Debug, PartialEq, Eq)]
 pub enum ByteOrder {
     Keep,
     ReorderPairs,
@@ -66,10 +107,7 @@ impl BitLength {
     pub fn at_most(self, most: BitLength) -> BitLength
         ensures { result.0 ≡ min self.0 most.0 }
     {
-        if self.0 < most.0 {
-            return self;
-        }
-        most
+        BitLength(self.0.min(most.0))
     }
 
     // The bits that are left of whole bytes.
@@ -77,6 +115,13 @@ impl BitLength {
         ensures { result.0 ≡ self.0 % 8 }
     {
         BitLength(self.0 % 8)
+    }
+
+    // The bytes that so many bits fill.
+    pub fn whole_bytes(self) -> ByteCount
+        ensures { result.0 ≡ self.0 / 8 }
+    {
+        ByteCount(self.0 as usize / 8)
     }
 
     // The bytes that hold so many bits.
@@ -147,32 +192,20 @@ impl DataType {
     pub fn is_byte_type(self) -> bool
         ensures { result ≡ is_byte_type self }
     {
-        match self {
-            DataType::Int32 => false,
-            DataType::UInt32 => false,
-            DataType::Float32 => false,
-            DataType::AsciiString => true,
-            DataType::Utf8String => true,
-            DataType::Unicode2String => true,
-            DataType::ByteField => true,
-            DataType::Float64 => false,
-        }
+        matches!(
+            self,
+            DataType::AsciiString
+                | DataType::Utf8String
+                | DataType::Unicode2String
+                | DataType::ByteField
+        )
     }
 
     // Text of two bytes to a character, the one type that goes by pairs.
     pub fn is_unicode(self) -> bool
         ensures { result ≡ is_unicode_type self }
     {
-        match self {
-            DataType::Int32 => false,
-            DataType::UInt32 => false,
-            DataType::Float32 => false,
-            DataType::AsciiString => false,
-            DataType::Utf8String => false,
-            DataType::Unicode2String => true,
-            DataType::ByteField => false,
-            DataType::Float64 => false,
-        }
+        self == DataType::Unicode2String
     }
 
     // Byte fields, ASCII and UTF-8 text have no byte order (ISO 22901-1, 7.3.6.3.3 b).
@@ -183,80 +216,46 @@ impl DataType {
             return ByteOrder::Keep;
         }
         match self {
-            DataType::Int32 => ByteOrder::Reverse,
-            DataType::UInt32 => ByteOrder::Reverse,
-            DataType::Float32 => ByteOrder::Reverse,
-            DataType::AsciiString => ByteOrder::Keep,
-            DataType::Utf8String => ByteOrder::Keep,
+            DataType::AsciiString | DataType::Utf8String | DataType::ByteField => ByteOrder::Keep,
             DataType::Unicode2String => ByteOrder::ReorderPairs,
-            DataType::ByteField => ByteOrder::Keep,
-            DataType::Float64 => ByteOrder::Reverse,
+            DataType::Int32 | DataType::UInt32 | DataType::Float32 | DataType::Float64 => {
+                ByteOrder::Reverse
+            }
         }
     }
 
-    pub fn validate_bit_pos(self, bit_pos: usize) -> Check
+    pub fn validate_bit_pos(self, bit_pos: usize) -> Result<(), Refusal>
         ensures { result ≡ bit_position_refusal self bit_pos }
     {
         if bit_pos == 0 {
-            return Check::Passed;
+            return Ok(());
         }
         if self.is_byte_type() {
-            return Check::Refused(Refusal::ByteTypeAtBitPosition);
+            return Err(Refusal::ByteTypeAtBitPosition);
         }
-        Check::Passed
+        Ok(())
     }
 
-    pub fn validate_bit_len(self, bit_len: BitLength) -> Check
+    pub fn validate_bit_len(self, bit_len: BitLength) -> Result<(), Refusal>
         ensures { result ≡ bit_length_refusal self bit_len.0 }
     {
         let bits = bit_len.0;
         if bits == 0 {
-            return Check::Refused(Refusal::ZeroBitLength);
+            return Err(Refusal::ZeroBitLength);
         }
         match self {
-            DataType::Int32 => at_most_64(bits),
-            DataType::UInt32 => at_most_64(bits),
-            DataType::Float32 => {
-                if bits == 32 {
-                    return Check::Passed;
-                }
-                Check::Refused(Refusal::Float32Length)
-            }
-            DataType::AsciiString => Check::Passed,
-            DataType::Utf8String => Check::Passed,
-            DataType::Unicode2String => {
-                if bits % 16 == 0 {
-                    return Check::Passed;
-                }
-                Check::Refused(Refusal::UnicodeLength)
-            }
-            DataType::ByteField => Check::Passed,
-            DataType::Float64 => {
-                if bits == 64 {
-                    return Check::Passed;
-                }
-                Check::Refused(Refusal::Float64Length)
-            }
+            DataType::Int32 | DataType::UInt32 if 64 < bits => Err(Refusal::IntegerTooLong),
+            DataType::Float32 if bits != 32 => Err(Refusal::Float32Length),
+            DataType::Float64 if bits != 64 => Err(Refusal::Float64Length),
+            DataType::Unicode2String if bits % 16 != 0 => Err(Refusal::UnicodeLength),
+            _ => Ok(()),
         }
     }
 }
 
-fn at_most_64(bits: u32) -> Check
-    ensures { result ≡ first_among (rule (ltb 64 bits) Refusal.IntegerTooLong ∷ []) }
-{
-    if 64 < bits {
-        return Check::Refused(Refusal::IntegerTooLong);
-    }
-    Check::Passed
-}
-
-// The sum of two positions, or the largest number where that is larger.
+// The sum of two positions, or the largest number where that is larger. It stays beside the library's method: a wrong edit is of it.
 pub fn saturating_add(a: usize, b: usize) -> usize
     ensures { result ≡ saturating_sum a b }
 {
-    let room = 0xFFFF_FFFF_FFFF_FFFF - a;
-    if room < b {
-        return 0xFFFF_FFFF_FFFF_FFFF;
-    }
-    a + b
+    a.saturating_add(b)
 }

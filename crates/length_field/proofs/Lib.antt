@@ -1,2 +1,2 @@
--- `LengthField` has a length field as a number, and what is found behind it.
+-- `LengthField` has a length field as a number, and how many data bytes it says.
 pub mod LengthField

@@ -1,15 +1,14 @@
 -- RULES 5.5, 5.6: the number in a length field, and where its data bytes are.
-use Rattle.std.specs.Prelude.{ℕ, zero, suc, ◌+◌, ◌*◌, cond, ◌||◌, List, [], ◌∷◌, length, get_or, eqb, ltb}
+use Rattle.std.specs.Prelude.{ℕ, zero, suc, ◌+◌, ◌*◌, cond, ◌||◌, List, [], ◌∷◌, length, get_or, eqb, ltb, None, Option, Some}
 use Rattle.kinds.specs.declared.types.ByteOrder.{ByteOrder}
 use Rattle.kinds.specs.Types.{bytes_for}
 use Rattle.kinds.specs.Slices.{saturating_sum, cut}
 use Rattle.kinds.specs.declared.refusals.Refusal.TheVariants.{LengthFieldPastPayload, LengthFieldTooWide}
-use Rattle.kinds.specs.declared.refusals.Check.{Check}
 use Rattle.kinds.specs.Outcomes.{rule, first_among}
 use Rattle.order.specs.Order.{ordered}
 use Rattle.bits.specs.Bits.{bit_at, number}
-use Rattle.length_field.specs.declared.leading.LengthInfo.{LengthInfo}
-use Rattle.length_field.specs.declared.leading.LengthInfo.TheVariants.{Bytes, TooWide}
+use Rattle.kinds.specs.Answers.{Check}
+use Rattle.kinds.specs.declared.types.ByteCount.{ByteCount}
 
 -- n bytes f 0, f 1, .. as one number, big-endian
 unfoldable pub big_endian : (ℕ → ℕ) → ℕ → ℕ
@@ -17,8 +16,8 @@ big_endian f zero = 0
 big_endian f (suc n) = 256 * big_endian f n + f n
 
 -- a length field is read as one, two, three, four, or five to eight bytes, and is too wide where it has more, or none
-abbrev pub length_info : List ℕ → LengthInfo
-length_info xs = cond (eqb (length xs) 0 || ltb 8 (length xs)) TooWide (Bytes (record { 0 = big_endian (λ j. get_or xs j 0) (length xs) }))
+abbrev pub length_info : List ℕ → Option ByteCount
+length_info xs = cond (eqb (length xs) 0 || ltb 8 (length xs)) None (Some (record { 0 = big_endian (λ j. get_or xs j 0) (length xs) }))
 
 module _ (o : ByteOrder) (bits : ℕ) (payload : List ℕ) (at : ℕ) where
   -- the length field is ceil(bits/8) bytes, ordered

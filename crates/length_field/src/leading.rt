@@ -1,18 +1,12 @@
 // Data bytes behind a length field.
 ghost use Rattle.std.specs.Prelude.{◌≡◌, ◌+◌, ◌*◌, ◌≤◌, ◌<◌, ◌%◌, ◌^◌, length, get_or};
+ghost use Rattle.kinds.specs.Types.{bytes_for};
 ghost use Rattle.order.specs.Order.{ordered};
 ghost use Rattle.kinds.specs.CodePlaces.{outcome_of_search};
 ghost use Rattle.length_field.specs.Leading.{big_endian, length_info};
-ghost use Rattle.length_field.specs.CodePlace.{data_place, leading_place};
+ghost use Rattle.length_field.specs.CodePlace.{count_in, data_place, leading_place};
 
-use kinds::{BitLength, ByteCount, ByteOrder, Check, DataType, PosInfo, Refusal};
-
-// The number in a length field.
-#[derive(Clone, Copy)]
-enum LengthInfo {
-    Bytes(ByteCount),
-    TooWide,
-}
+use kinds::{BitLength, ByteCount, ByteOrder, DataType, Failure, Lent, PosInfo, Refusal};
 
 // The byte at j of the ordered form of the length field.
 fn digit(length_info_bytes: &[u8], byte_order: ByteOrder, j: usize) -> usize
@@ -32,7 +26,8 @@ fn pair(length_info_bytes: &[u8], byte_order: ByteOrder, j: usize) -> usize
     256 * digit(length_info_bytes, byte_order, j) + digit(length_info_bytes, byte_order, j + 1)
 }
 
-// All of the bytes, big-endian.
+// All of the bytes, big-endian. A loop over the index: a byte of the ordered form is read by its index alone.
+#[tactic(auto, using(crate::proofs::LengthField::big_endian_next, crate::proofs::LengthField::byte_more, crate::proofs::LengthField::byte_room), unfolding(crate::specs::Leading::big_endian))]
 fn wide(length_info_bytes: &[u8], byte_order: ByteOrder) -> usize
     requires { length length_info_bytes.now ≤ 8 }
     ensures { result ≡ big_endian (λ j. get_or (ordered byte_order length_info_bytes.now) j 0) (length length_info_bytes.now) }
@@ -44,31 +39,25 @@ fn wide(length_info_bytes: &[u8], byte_order: ByteOrder) -> usize
     len
 }
 
-fn known(number: usize) -> LengthInfo
-    ensures { result ≡ LengthInfo.Bytes (record { 0 = number }) }
-{
-    LengthInfo::Bytes(ByteCount(number))
-}
-
 // The number in a length field of one, two, three, four, or five to eight bytes.
-fn usize_from_bytes(length_info_bytes: &[u8], byte_order: ByteOrder) -> LengthInfo
+#[tactic(auto, using(crate::proofs::LengthField::read_none, crate::proofs::LengthField::read_some, crate::proofs::LengthField::read_many), unfolding(crate::specs::Leading::big_endian))]
+fn usize_from_bytes(length_info_bytes: &[u8], byte_order: ByteOrder) -> Option<ByteCount>
     ensures { result ≡ length_info (ordered byte_order length_info_bytes.now) }
 {
-    match length_info_bytes.len() {
-        1 => known(digit(length_info_bytes, byte_order, 0)),
-        2 => known(pair(length_info_bytes, byte_order, 0)),
-        3 => known(
-            256 * pair(length_info_bytes, byte_order, 0) + digit(length_info_bytes, byte_order, 2),
-        ),
-        4 => known(
-            65536 * pair(length_info_bytes, byte_order, 0) + pair(length_info_bytes, byte_order, 2),
-        ),
-        5..=8 => known(wide(length_info_bytes, byte_order)),
-        _ => LengthInfo::TooWide,
-    }
+    let number = match length_info_bytes.len() {
+        1 => digit(length_info_bytes, byte_order, 0),
+        2 => pair(length_info_bytes, byte_order, 0),
+        3 => 256 * pair(length_info_bytes, byte_order, 0) + digit(length_info_bytes, byte_order, 2),
+        4 => 65536 * pair(length_info_bytes, byte_order, 0)
+            + pair(length_info_bytes, byte_order, 2),
+        5..=8 => wide(length_info_bytes, byte_order),
+        _ => return None,
+    };
+    Some(ByteCount(number))
 }
 
 // The lowest bits of a number.
+#[tactic(auto, using(crate::proofs::LengthField::all_bits))]
 fn lowest_bits(number: ByteCount, bit_len: BitLength) -> ByteCount
     ensures { result.0 ≡ number.0 % 2 ^ bit_len.0 }
 {
@@ -79,53 +68,63 @@ fn lowest_bits(number: ByteCount, bit_len: BitLength) -> ByteCount
     number
 }
 
+// How many data bytes a length field of so many bits says.
+#[tactic(auto, using(crate::proofs::LengthField::too_wide, crate::proofs::LengthField::counted))]
+fn data_byte_count(
+    length_info_bytes: &[u8],
+    byte_order: ByteOrder,
+    bits: BitLength,
+) -> Result<ByteCount, Refusal>
+    requires bits_nonzero { 0 < bits.0 }
+    requires length_info_bytes_len { length length_info_bytes.now ≡ bytes_for bits.0 }
+    ensures { result ≡ count_in bits.0 (ordered byte_order length_info_bytes.now) }
+{
+    let number = usize_from_bytes(length_info_bytes, byte_order).ok_or(
+        Refusal::LengthFieldTooWide,
+    )?;
+    Ok(lowest_bits(number, bits))
+}
+
 // The data bytes behind a length field of so many bits, which are as many as it says.
+#[tactic(auto, unfolding(crate::specs::Leading::leading_count))]
 fn behind_length_field(
-    uds_payload: &[u8],
+    uds_payload: Lent,
     byte_pos: usize,
     byte_order: ByteOrder,
     bits: BitLength,
-) -> PosInfo
-    requires uds_payload_len_bound { length uds_payload.now ≤ 65535 }
-    requires bits_nonzero { 0 < bits.0 }
-    ensures { outcome_of_search result ≡ data_place byte_order bits.0 uds_payload.now byte_pos }
+) -> Result<PosInfo, Failure>
+    requires { 0 < bits.0 }
+    ensures { outcome_of_search result ≡ data_place byte_order bits.0 uds_payload.entry.bytes.now byte_pos }
 {
+    let payload = uds_payload.bytes;
     let start_pos = kinds::saturating_add(byte_pos, bits.byte_count().bytes());
-    if uds_payload.len() < start_pos {
-        return PosInfo::Refused(Refusal::LengthFieldPastPayload);
+    if payload.len() < start_pos {
+        return Err(Failure::Refused(Refusal::LengthFieldPastPayload));
     }
-    match usize_from_bytes(&uds_payload[byte_pos..start_pos], byte_order) {
-        LengthInfo::TooWide => PosInfo::Refused(Refusal::LengthFieldTooWide),
-        LengthInfo::Bytes(number) => {
-            let len = lowest_bits(number, bits);
-            let end_pos = kinds::saturating_add(start_pos, len.bytes());
-            if uds_payload.len() < end_pos {
-                return PosInfo::NotEnoughData {
-                    expected: end_pos,
-                    actual: uds_payload.len(),
-                };
-            }
-            PosInfo::Found {
-                bit_len: len.bit_length(),
-                start_pos,
-            }
-        }
+    let len = data_byte_count(&payload[byte_pos..start_pos], byte_order, bits)?;
+    let end_pos = kinds::saturating_add(start_pos, len.bytes());
+    if payload.len() < end_pos {
+        return Err(Failure::NotEnoughData {
+            expected: end_pos,
+            actual: payload.len(),
+        });
     }
+    Ok(PosInfo {
+        bit_len: len.bit_length(),
+        start_pos,
+    })
 }
 
 // The bits of the length field are not part of the result: the data bytes start at the byte edge behind it.
 pub fn pos_info_leading_len(
     base_datatype: DataType,
-    uds_payload: &[u8],
+    uds_payload: Lent,
     byte_pos: usize,
     byte_order: ByteOrder,
     bits: BitLength,
-) -> PosInfo
-    requires { length uds_payload.now ≤ 65535 }
-    ensures { outcome_of_search result ≡ leading_place byte_order bits.0 uds_payload.now byte_pos base_datatype }
+) -> Result<PosInfo, Failure>
+    ensures { outcome_of_search result ≡ leading_place byte_order bits.0 uds_payload.entry.bytes.now byte_pos base_datatype }
 {
-    match base_datatype.validate_bit_len(bits) {
-        Check::Refused(refusal) => PosInfo::Refused(refusal),
-        Check::Passed => behind_length_field(uds_payload, byte_pos, byte_order, bits),
-    }
+    base_datatype.validate_bit_len(bits)?;
+    behind_length_field(uds_payload, byte_pos, byte_order, bits)
 }

@@ -2,7 +2,7 @@
 use Rattle.std.specs.Prelude.{ℕ, ◌*◌, ◌^◌, Bool, true, false, ◌&&◌, [], ◌∷◌, length, eqb, ltb, leb}
 use Rattle.kinds.specs.declared.types.DataType.{DataType}
 use Rattle.kinds.specs.declared.refusals.Refusal.TheVariants.{LengthFieldTooWide, CountTooLarge, EmptyUntilEndOfPdu, MaskLongerThanLength, EmptyLengthField}
-use Rattle.kinds.specs.declared.refusals.Check.{Check}
+use Rattle.kinds.specs.Answers.{Check}
 use Rattle.kinds.specs.Outcomes.{rule, first_among, or_else}
 use Rattle.kinds.specs.Refusals.{bit_length_refusal}
 use Rattle.coded.specs.declared.variants.Termination.{Termination}

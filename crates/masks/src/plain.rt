@@ -5,13 +5,14 @@ ghost use Rattle.masks.specs.Plain.{bit_of_mask, keeps, masked};
 use kinds::{BitLength, ByteCount};
 
 // Which bits a mask keeps. The others it clears.
-#[derive(Clone, Copy)]
+#[derive(Clone, Copy, Debug, PartialEq, Eq)]
 pub enum Kept {
     UnderOnes,
     UnderZeros,
 }
 
 // Bit i of a mask.
+#[tactic(auto, using(crate::proofs::Masked::mask_bit_empty), unfolding(crate::specs::Plain::bit_of_mask))]
 pub fn mask_bit_at(mask: &[u8], i: usize) -> u8
     ensures { result ≡ bit_of_mask mask.now i }
 {
@@ -26,6 +27,7 @@ pub fn mask_bit_at(mask: &[u8], i: usize) -> u8
 }
 
 // Whether a bit is kept (1) or cleared (0) at a mask bit.
+#[tactic(auto, unfolding(crate::specs::Plain::bit_of_mask, bits::specs::Bits::bit))]
 fn keeps_at(kept: Kept, mask: &[u8], i: usize) -> u8
     ensures { result ≡ keeps kept (bit_of_mask mask.now i) }
 {
@@ -37,6 +39,7 @@ fn keeps_at(kept: Kept, mask: &[u8], i: usize) -> u8
 }
 
 // Keeps or clears bits of the data from a bit position on, by the bits of the mask from its lowest.
+#[tactic(auto, using(crate::proofs::Masked::masked_step, bits::proofs::Steps::overlaid_none, bits::proofs::Steps::overlaid_past))]
 pub fn apply_bit_mask(data: &mut [u8], mask: &[u8], kept: Kept, bit_len: BitLength, bit_pos: usize)
     requires data_len_bound { length «data».old ≤ 65535 }
     requires bit_pos_bound { bit_pos ≤ 8 * 65535 }

@@ -2,40 +2,28 @@
 -- contract, which the toolchain reads from the function's clauses and proves of them: of the lifetimes, of the arguments, of a result, and of
 -- the parameters at exit. So a contract that leaves something open breaks its theorem here.
 use mathlib.Core.Path.{◌≡◌, refl, sym, ap, ◌∙◌}
-use mathlib.Core.Bool.{cond}
+use mathlib.Core.Bool.{cond, true≢false}
+use borrow.Author.Tests.{eq-eqb}
 use mathlib.Core.List.{List, ◌∷◌}
 use Prim.Native.Nat.{ℕ}
-use lib.ListN.{length, get_or, drop}
+use lib.ListN.{get_or, drop}
 use lib.Dec.{eqb}
 use lib.IntN.{ℤ}
 use Rattle.kinds.specs.declared.refusals.Refusal.{Refusal}
 use Rattle.kinds.specs.declared.refusals.Refusal.TheVariants.{MalformedTable}
-use Rattle.kinds.specs.declared.refusals.Check.{Check}
-use Rattle.kinds.specs.declared.refusals.Check.TheVariants as check
-use Rattle.kinds.specs.declared.refusals.Reading.{Reading}
-use Rattle.kinds.specs.declared.refusals.Reading.TheVariants as reading
-use Rattle.kinds.specs.declared.refusals.Writing.{Writing}
-use Rattle.kinds.specs.declared.refusals.Writing.TheVariants as writing
-use Rattle.kinds.specs.Answers.{number_in, numbered, report_of_check, report_of_reading, report_of_writing}
+use Rattle.std.specs.Prelude.{Result, Ok, Err, IfOk}
+use Rattle.std.specs.Borrow.{Bor}
+use Rattle.kinds.specs.declared.refusals.Counts.{Counts}
+use Rattle.kinds.specs.Answers.{number_of, number_in, numbered, Check, Reading, Writing, no_counts, report_of_check, report_of_reading, report_of_writing}
 use Rattle.kinds.specs.Slices.{place_behind}
-use Rattle.kinds.specs.Outcomes.{Outcome, gives, lacks, refuses, Answer, answer}
-use Rattle.kinds.proofs.Rows.{refusal_of, never_0, never_30, refusal_told}
-use Rattle.coded.specs.declared.variants.MinMaxBuilt.{MinMaxBuilt}
-use Rattle.coded.specs.declared.variants.MinMaxBuilt.TheVariants as min_max
-use Rattle.coded.specs.declared.coded_type.Built.{Built}
-use Rattle.coded.specs.declared.coded_type.Built.TheVariants as built
-use Rattle.coded.specs.Making.{outcome_of_min_max, outcome_of_coded_type}
+use Rattle.kinds.specs.Outcomes.{Outcome, gives, lacks, refuses, outcome_of, Answer, answer}
+use Rattle.kinds.proofs.Rows.{refusal_of, never_0, refusal_told}
+use Rattle.kinds.proofs.Reports.{check_of, check_told, failure_of, failure_told, failure_seen}
+use Rattle.parts.proofs.OneAnswer.{Same, one_part}
+use Rattle.calls.specs.Calls.{by_type, name_answer, outcome_of_name, name_start}
 use Rattle.payload.specs.Payload.{Payload, payload_of}
-use Rattle.record.specs.declared.recorded.Recorded.{Recorded}
-use Rattle.record.specs.declared.recorded.Recorded.TheVariants as recorded
-use Rattle.record.specs.Recorded.{outcome_of_recorded}
-use Rattle.table.specs.declared.Fetched.{Fetched}
-use Rattle.table.specs.declared.Fetched.TheVariants as fetch
-use Rattle.table.specs.Table.{outcome_of_fetched}
-use Rattle.parts.specs.Part.{part_start}
 use Rattle.kinds.proofs.refusals.Refusal.number.Reads as refusal-number
-use Rattle.kinds.proofs.refusals.Reading.report.Reads as reading-report
-use Rattle.kinds.proofs.refusals.Writing.report.Reads as writing-report
+use Rattle.kinds.proofs.report.Reads as report
 use Rattle.classes.proofs.class_of.Reads as class_of
 use Rattle.coded.proofs.coded_type.DiagCodedType.validate.Reads as validate
 use Rattle.coded.proofs.variants.MinMaxLengthType.new.Reads as new_limits
@@ -52,15 +40,11 @@ use Rattle.record.proofs.coded_by_record.Reads as coded_by_record
 use Rattle.storing.proofs.record_of.Reads as record_of
 use Rattle.table.proofs.fetch.Reads as fetching
 use Rattle.calls.proofs.decode.Reads as decode
-use Rattle.calls.proofs.decode_by_record.Reads as decode-by-record
 use Rattle.calls.proofs.encode.Reads as encode
-use Rattle.calls.proofs.encode_by_record.Reads as encode-by-record
 use Rattle.calls.proofs.clear.Reads as clear
-use Rattle.calls.proofs.clear_by_record.Reads as clear-by-record
 use Rattle.calls.proofs.decode_with_runtime_byte_length.Reads as runtime-read
-use Rattle.calls.proofs.decode_with_runtime_byte_length_by_record.Reads as runtime-read-by-record
 use Rattle.calls.proofs.length_key_name.Reads as length-key-name
-use Rattle.encodings.proofs.encoding_of.Reads as encoding-of
+use Rattle.encodings.proofs.forms.EncodingTryFromU32.try_from.Reads as encoding-of
 use Rattle.values.proofs.read.Reads as value_read
 use Rattle.values.proofs.read_by_code.Reads as value_read_by_code
 use Rattle.values.proofs.write.Reads as value-write
@@ -81,32 +65,20 @@ no_second shows tells told a b ea eb = sym (told a) ∙ ap tells (ea ∙ sym eb)
 
 -- ---- what a report tells
 
-abbrev check_of : List ℕ → Check
-check_of r = cond (eqb (number_in r) 0) check.Passed (check.Refused (refusal_of (number_in r)))
-
-check_told : (c : Check) → check_of (report_of_check c) ≡ c
-check_told check.Passed = refl
-check_told (check.Refused r) = rw (never_0 r) (ap check.Refused (refusal_told r))
-
 abbrev reading_of : List ℕ → Reading
 reading_of r =
-    cond (eqb (number_in r) 0) (reading.Read (record { 0 = get_or r 1 0 }) (record { 0 = get_or r 2 0 }))
-    (cond (eqb (number_in r) 30) (reading.NotEnoughData (get_or r 3 0) (get_or r 4 0)) (reading.Refused (refusal_of (number_in r))))
+    cond (eqb (number_in r) 0) (Ok (record { bit_count = record { 0 = get_or r 1 0 }; byte_count = record { 0 = get_or r 2 0 } })) (Err (failure_of r))
 
 reading_told : (r : Reading) → reading_of (report_of_reading r) ≡ r
-reading_told (reading.Read bits bytes) = refl
-reading_told (reading.NotEnoughData e a) = refl
-reading_told (reading.Refused r) = rw (never_0 r, never_30 r) (ap reading.Refused (refusal_told r))
+reading_told (Ok counts) = refl
+reading_told (Err f) = rw (failure_seen (λ (counts : Counts). counts) f) (ap Err (failure_told (λ (counts : Counts). counts) f))
 
 abbrev writing_of : List ℕ → Writing
-writing_of r =
-    cond (eqb (number_in r) 0) writing.Written
-    (cond (eqb (number_in r) 30) (writing.NotEnoughData (get_or r 3 0) (get_or r 4 0)) (writing.Refused (refusal_of (number_in r))))
+writing_of r = cond (eqb (number_in r) 0) (Ok tt) (Err (failure_of r))
 
 writing_told : (w : Writing) → writing_of (report_of_writing w) ≡ w
-writing_told writing.Written = refl
-writing_told (writing.NotEnoughData e a) = refl
-writing_told (writing.Refused r) = rw (never_0 r, never_30 r) (ap writing.Refused (refusal_told r))
+writing_told (Ok done) = refl
+writing_told (Err f) = rw (failure_seen (λ (done : Unit {0}). no_counts) f) (ap Err (failure_told (λ (done : Unit {0}). no_counts) f))
 
 -- ---- one answer for each kind
 
@@ -125,81 +97,72 @@ one_numbered : {A : Type 0} {x : Answer A} (a b : ℕ × A) → answer (numbered
 one_numbered {A} = no_second (λ (a : ℕ × A). answer (numbered a.0) a.1) (λ s. (number_in s.report, s.left)) (λ a. refl)
 
 -- what is made or refused
-module _ {A E : Type 0} (made : A → E) (turned_down : Refusal → E) where
-  abbrev outcome_tells : Outcome A → E
-  outcome_tells (gives a) = made a
-  outcome_tells (lacks e a) = turned_down MalformedTable
-  outcome_tells (refuses r) = turned_down r
+module _ {A : Type 0} where
+  abbrev made_of : Outcome A → Result A Refusal
+  made_of (gives a) = Ok a
+  made_of (lacks e a) = Err MalformedTable
+  made_of (refuses r) = Err r
 
-limits_told : (b : MinMaxBuilt) → outcome_tells min_max.Made min_max.Refused (outcome_of_min_max b) ≡ b
-limits_told (min_max.Made m) = refl
-limits_told (min_max.Refused r) = refl
+  made_told : (r : Result A Refusal) → made_of (outcome_of r) ≡ r
+  made_told (Ok a) = refl
+  made_told (Err r) = refl
 
-made_told : (b : Built) → outcome_tells built.Made built.Refused (outcome_of_coded_type b) ≡ b
-made_told (built.Made t) = refl
-made_told (built.Refused r) = refl
+  one_made : {o : Outcome A} (a b : Result A Refusal) → outcome_of a ≡ o → outcome_of b ≡ o → a ≡ b
+  one_made = no_second outcome_of made_of made_told
 
-recorded_told : (d : Recorded) → outcome_tells recorded.Coded recorded.Refused (outcome_of_recorded d) ≡ d
-recorded_told (recorded.Coded t) = refl
-recorded_told (recorded.Refused r) = refl
+-- a name: the same refusal, or the same bytes at the same place
+abbrev pub SameName : Result (Bor (List ℕ)) Refusal → Result (Bor (List ℕ)) Refusal → Type 0
+SameName (Ok a) (Ok b) = (a.now ≡ b.now) × (a.ref_ptr ≡ b.ref_ptr)
+SameName (Ok a) (Err r) = ⊥
+SameName (Err r) (Ok b) = ⊥
+SameName (Err r) (Err s) = r ≡ s
 
-fetched_told : (f : Fetched) → outcome_tells fetch.Found fetch.Refused (outcome_of_fetched f) ≡ f
-fetched_told (fetch.Found e) = refl
-fetched_told (fetch.Refused r) = refl
+no_refusal : (r : Refusal) → number_of r ≡ 0 → ⊥
+no_refusal r e = true≢false (sym (eq-eqb (number_of r) 0 e) ∙ never_0 r)
+
+one_name : (place : ℕ × ℕ) (r r' : Result (Bor (List ℕ)) Refusal) → name_answer (outcome_of_name r) ≡ name_answer (outcome_of_name r') → IfOk r (λ n. n.ref_ptr ≡ place) → IfOk r' (λ n. n.ref_ptr ≡ place) → SameName r r'
+one_name place (Ok a) (Ok b) e l l' = (ap (λ (s : Answer (List ℕ)). s.left) e, l ∙ sym l')
+one_name place (Ok a) (Err r) e l l' = no_refusal r (sym (ap (λ (s : Answer (List ℕ)). number_in s.report) e))
+one_name place (Err r) (Ok b) e l l' = no_refusal r (ap (λ (s : Answer (List ℕ)). number_in s.report) e)
+one_name place (Err r) (Err s) e l l' = sym (refusal_told r) ∙ ap (λ (a : Answer (List ℕ)). refusal_of (number_in a.report)) e ∙ refusal_told s
 
 -- ---- what users call, one function after the other
 
 -- a decode: the answer, and the output
-pub decode_one : (κs : _) (args : _) (r r' : _) (e e' : _) → decode.Learnt κs args r e → decode.Learnt κs args r' e' → ◌≡◌ {A = Reading × List ℕ} (r, e.1.1.1.1.1.0.now) (r', e'.1.1.1.1.1.0.now)
-decode_one κs args r r' e e' h h' = one_reported report_of_reading reading_of reading_told (r, e.1.1.1.1.1.0.now) (r', e'.1.1.1.1.1.0.now) h h'
-
-pub decode_by_record_one : (κs : _) (args : _) (r r' : _) (e e' : _) → decode-by-record.Learnt κs args r e → decode-by-record.Learnt κs args r' e' → ◌≡◌ {A = Reading × List ℕ} (r, e.1.1.1.1.1.0.now) (r', e'.1.1.1.1.1.0.now)
-decode_by_record_one κs args r r' e e' h h' = one_reported report_of_reading reading_of reading_told (r, e.1.1.1.1.1.0.now) (r', e'.1.1.1.1.1.0.now) h h'
+pub decode_one : (T : _) (L : _) (G : _) (D : _) (κs : _) (args : _) (r r' : _) (e e' : _) → decode.Learnt T L G D κs args r e → decode.Learnt T L G D κs args r' e' → ◌≡◌ {A = Reading × List ℕ} (r, e.1.1.1.1.1.0.now) (r', e'.1.1.1.1.1.0.now)
+decode_one T L G D κs args r r' e e' h h' = one_reported report_of_reading reading_of reading_told (r, e.1.1.1.1.1.0.now) (r', e'.1.1.1.1.1.0.now) h h'
 
 -- an encode: the answer, the payload and the used length
-pub encode_one : (κs : _) (args : _) (r r' : _) (e e' : _) → encode.Learnt κs args r e → encode.Learnt κs args r' e' → ◌≡◌ {A = Writing × Payload} (r, payload_of e.1.1.1.0.now e.1.1.1.1.0.now) (r', payload_of e'.1.1.1.0.now e'.1.1.1.1.0.now)
-encode_one κs args r r' e e' h h' = one_reported report_of_writing writing_of writing_told (r, payload_of e.1.1.1.0.now e.1.1.1.1.0.now) (r', payload_of e'.1.1.1.0.now e'.1.1.1.1.0.now) h h'
-
-pub encode_by_record_one : (κs : _) (args : _) (r r' : _) (e e' : _) → encode-by-record.Learnt κs args r e → encode-by-record.Learnt κs args r' e' → ◌≡◌ {A = Writing × Payload} (r, payload_of e.1.1.1.0.now e.1.1.1.1.0.now) (r', payload_of e'.1.1.1.0.now e'.1.1.1.1.0.now)
-encode_by_record_one κs args r r' e e' h h' = one_reported report_of_writing writing_of writing_told (r, payload_of e.1.1.1.0.now e.1.1.1.1.0.now) (r', payload_of e'.1.1.1.0.now e'.1.1.1.1.0.now) h h'
+pub encode_one : (T : _) (L : _) (G : _) (D : _) (κs : _) (args : _) (r r' : _) (e e' : _) → encode.Learnt T L G D κs args r e → encode.Learnt T L G D κs args r' e' → ◌≡◌ {A = Writing × Payload} (r, payload_of e.1.1.1.0.now e.1.1.1.1.0.now) (r', payload_of e'.1.1.1.0.now e'.1.1.1.1.0.now)
+encode_one T L G D κs args r r' e e' h h' = one_reported report_of_writing writing_of writing_told (r, payload_of e.1.1.1.0.now e.1.1.1.1.0.now) (r', payload_of e'.1.1.1.0.now e'.1.1.1.1.0.now) h h'
 
 -- a clear: the answer and the payload; the used length is not lent
-pub clear_one : (κs : _) (args : _) (r r' : _) (e e' : _) → clear.Learnt κs args r e → clear.Learnt κs args r' e' → ◌≡◌ {A = Writing × Payload} (r, payload_of e.1.1.0.now args.1.1.1.0) (r', payload_of e'.1.1.0.now args.1.1.1.0)
-clear_one κs args r r' e e' h h' = one_reported report_of_writing writing_of writing_told (r, payload_of e.1.1.0.now args.1.1.1.0) (r', payload_of e'.1.1.0.now args.1.1.1.0) h h'
+pub clear_one : (T : _) (L : _) (G : _) (D : _) (κs : _) (args : _) (r r' : _) (e e' : _) → clear.Learnt T L G D κs args r e → clear.Learnt T L G D κs args r' e' → ◌≡◌ {A = Writing × Payload} (r, payload_of e.1.1.0.now args.1.1.1.0) (r', payload_of e'.1.1.0.now args.1.1.1.0)
+clear_one T L G D κs args r r' e e' h h' = one_reported report_of_writing writing_of writing_told (r, payload_of e.1.1.0.now args.1.1.1.0) (r', payload_of e'.1.1.0.now args.1.1.1.0) h h'
 
-pub clear_by_record_one : (κs : _) (args : _) (r r' : _) (e e' : _) → clear-by-record.Learnt κs args r e → clear-by-record.Learnt κs args r' e' → ◌≡◌ {A = Writing × Payload} (r, payload_of e.1.1.0.now args.1.1.1.0) (r', payload_of e'.1.1.0.now args.1.1.1.0)
-clear_by_record_one κs args r r' e e' h h' = one_reported report_of_writing writing_of writing_told (r, payload_of e.1.1.0.now args.1.1.1.0) (r', payload_of e'.1.1.0.now args.1.1.1.0) h h'
+-- a runtime read: the failure, or the bytes of the part and where it lies
+pub runtime_read_one : (T : _) (L : _) (G : _) (D : _) (κs : _) (args : _) (r r' : _) (e e' : _) → runtime-read.Learnt T L G D κs args r e → runtime-read.Learnt T L G D κs args r' e' → Same r r'
+runtime_read_one T L G D κs args r r' e e' h h' = one_part args.1.1.1.0 args.1.1.0 r r' (h.0 ∙ sym h'.0) h.1 h'.1
 
--- a runtime read: number, report, the bytes of the part, and where it lies
-pub runtime_read_one : (κs : _) (args : _) (r r' : _) (e e' : _) → runtime-read.Learnt κs args r e → runtime-read.Learnt κs args r' e' → (◌≡◌ {A = ℕ × List ℕ × List ℕ} (e.1.1.1.1.1.0.now, e.1.1.1.1.1.1.0.now, r.now) (e'.1.1.1.1.1.0.now, e'.1.1.1.1.1.1.0.now, r'.now)) × (r.ref_ptr ≡ r'.ref_ptr)
-runtime_read_one κs args r r' e e' h h' =
-    let same : ◌≡◌ {A = ℕ × List ℕ × List ℕ} (e.1.1.1.1.1.0.now, e.1.1.1.1.1.1.0.now, r.now) (e'.1.1.1.1.1.0.now, e'.1.1.1.1.1.1.0.now, r'.now) = one_counted (e.1.1.1.1.1.0.now, e.1.1.1.1.1.1.0.now, r.now) (e'.1.1.1.1.1.0.now, e'.1.1.1.1.1.1.0.now, r'.now) h.0 h'.0 in
-    (same, h.1 ∙ ap (λ (q : ℕ × List ℕ × List ℕ). place_behind (part_start (length q.2) args.1.1.1.0) args.1.1.0.ref_ptr) same ∙ sym h'.1)
-
-pub runtime_read_by_record_one : (κs : _) (args : _) (r r' : _) (e e' : _) → runtime-read-by-record.Learnt κs args r e → runtime-read-by-record.Learnt κs args r' e' → (◌≡◌ {A = ℕ × List ℕ × List ℕ} (e.1.1.1.1.1.0.now, e.1.1.1.1.1.1.0.now, r.now) (e'.1.1.1.1.1.0.now, e'.1.1.1.1.1.1.0.now, r'.now)) × (r.ref_ptr ≡ r'.ref_ptr)
-runtime_read_by_record_one κs args r r' e e' h h' =
-    let same : ◌≡◌ {A = ℕ × List ℕ × List ℕ} (e.1.1.1.1.1.0.now, e.1.1.1.1.1.1.0.now, r.now) (e'.1.1.1.1.1.0.now, e'.1.1.1.1.1.1.0.now, r'.now) = one_counted (e.1.1.1.1.1.0.now, e.1.1.1.1.1.1.0.now, r.now) (e'.1.1.1.1.1.0.now, e'.1.1.1.1.1.1.0.now, r'.now) h.0 h'.0 in
-    (same, h.1 ∙ ap (λ (q : ℕ × List ℕ × List ℕ). place_behind (part_start (length q.2) args.1.1.1.0) args.1.1.0.ref_ptr) same ∙ sym h'.1)
-
--- a key name: number, the bytes of the name, and where it lies
-pub length_key_name_one : (κs : _) (args : _) (r r' : _) (e e' : _) → length-key-name.Learnt κs args r e → length-key-name.Learnt κs args r' e' → (◌≡◌ {A = ℕ × List ℕ} (e.1.1.0.now, r.now) (e'.1.1.0.now, r'.now)) × (r.ref_ptr ≡ r'.ref_ptr)
-length_key_name_one κs args r r' e e' h h' = (one_numbered (e.1.1.0.now, r.now) (e'.1.1.0.now, r'.now) h.0 h'.0, h.1 ∙ sym h'.1)
+-- a key name: the refusal, or the bytes of the name and where it lies
+pub length_key_name_one : (κs : _) (args : _) (r r' : _) (e e' : _) → length-key-name.Learnt κs args r e → length-key-name.Learnt κs args r' e' → SameName r r'
+length_key_name_one κs args r r' e e' h h' = one_name (place_behind (name_start (by_type args.0) args.1.0.now) args.1.0.ref_ptr) r r' (h.0 ∙ sym h'.0) h.1 h'.1
 
 -- what is made
 pub new_limits_one : (κs : _) (args : _) (r r' : _) (e e' : _) → new_limits.Learnt κs args r e → new_limits.Learnt κs args r' e' → r ≡ r'
-new_limits_one κs args r r' e e' h h' = no_second outcome_of_min_max (outcome_tells min_max.Made min_max.Refused) limits_told r r' h h'
+new_limits_one κs args r r' e e' h h' = one_made r r' h h'
 
 pub new_one : (κs : _) (args : _) (r r' : _) (e e' : _) → new.Learnt κs args r e → new.Learnt κs args r' e' → r ≡ r'
-new_one κs args r r' e e' h h' = no_second outcome_of_coded_type (outcome_tells built.Made built.Refused) made_told r r' h h'
+new_one κs args r r' e e' h h' = one_made r r' h h'
 
 pub new_high_low_one : (κs : _) (args : _) (r r' : _) (e e' : _) → new-high-low.Learnt κs args r e → new-high-low.Learnt κs args r' e' → r ≡ r'
-new_high_low_one κs args r r' e e' h h' = no_second outcome_of_coded_type (outcome_tells built.Made built.Refused) made_told r r' h h'
+new_high_low_one κs args r r' e e' h h' = one_made r r' h h'
 
 pub coded_by_record_one : (κs : _) (args : _) (r r' : _) (e e' : _) → coded_by_record.Learnt κs args r e → coded_by_record.Learnt κs args r' e' → r ≡ r'
-coded_by_record_one κs args r r' e e' h h' = no_second outcome_of_recorded (outcome_tells recorded.Coded recorded.Refused) recorded_told r r' h h'
+coded_by_record_one κs args r r' e e' h h' = one_made r r' h.0 h'.0
 
 pub fetch_one : (κs : _) (args : _) (r r' : _) (e e' : _) → fetching.Learnt κs args r e → fetching.Learnt κs args r' e' → r ≡ r'
-fetch_one κs args r r' e e' h h' = no_second outcome_of_fetched (outcome_tells fetch.Found fetch.Refused) fetched_told r r' h h'
+fetch_one κs args r r' e e' h h' = one_made r r' h h'
 
 -- a record that is written: the answer and its bytes
 pub record_of_one : (κs : _) (args : _) (r r' : _) (e e' : _) → record_of.Learnt κs args r e → record_of.Learnt κs args r' e' → ◌≡◌ {A = Check × List ℕ} (r, e.1.0.now) (r', e'.1.0.now)
@@ -273,11 +236,8 @@ dct_class_one κs args r r' e e' h h' = h ∙ sym h'
 pub refusal_number_one : (κs : _) (args : _) (r r' : _) (e e' : _) → refusal-number.Learnt κs args r e → refusal-number.Learnt κs args r' e' → r ≡ r'
 refusal_number_one κs args r r' e e' h h' = h ∙ sym h'
 
-pub reading_report_one : (κs : _) (args : _) (r r' : _) (e e' : _) → reading-report.Learnt κs args r e → reading-report.Learnt κs args r' e' → ◌≡◌ {A = List ℕ} (r ∷ e.1.0.now) (r' ∷ e'.1.0.now)
-reading_report_one κs args r r' e e' h h' = h ∙ sym h'
-
-pub writing_report_one : (κs : _) (args : _) (r r' : _) (e e' : _) → writing-report.Learnt κs args r e → writing-report.Learnt κs args r' e' → ◌≡◌ {A = List ℕ} (r ∷ e.1.0.now) (r' ∷ e'.1.0.now)
-writing_report_one κs args r r' e e' h h' = h ∙ sym h'
+pub report_one : (T : _) (L : _) (G : _) (D : _) (κs : _) (args : _) (r r' : _) (e e' : _) → report.Learnt T L G D κs args r e → report.Learnt T L G D κs args r' e' → ◌≡◌ {A = List ℕ} (r ∷ e.1.0.now) (r' ∷ e'.1.0.now)
+report_one T L G D κs args r r' e e' h h' = h ∙ sym h'
 
 pub validate_one : (κs : _) (args : _) (r r' : _) (e e' : _) → validate.Learnt κs args r e → validate.Learnt κs args r' e' → r ≡ r'
 validate_one κs args r r' e e' h h' = h ∙ sym h'

@@ -1,20 +1,19 @@
 -- Bytes as one number, and a number as bytes, one byte after the other.
-use mathlib.Core.Path.{◌≡◌, sym, ap, ap₂, ◌∙◌}
+use mathlib.Core.Path.{◌≡◌, refl, sym, ap, ap₂, ◌∙◌}
 use mathlib.Core.List.{List, ◌++◌, append-nil}
 use Prim.Native.Nat.{ℕ, zero, suc, ◌+◌, ◌-◌, ◌*◌, ◌/◌, ◌%◌, ◌^◌, ◌≤◌, ◌<◌}
 use native.Mathlib.Omega.{arith}
-use native.Mathlib.Nat.{mod-one, zero-add}
+use native.Mathlib.Nat.{mod-one, zero-add, suc-mul, div-eq_of_lt-le}
 use native.Mathlib.Numerals.{add-one}
 use lib.ListN.{length, get_or, set, drop, drop_of_length-le}
 use lib.Seq.{take_all, paste, paste-suc}
 use lib.Bits.{bit_and, and_mask}
-use lib.Pow.{pow_mono, mod-pow-add, shr-shr}
+use lib.Pow.{pow_pos, pow_mono, pow-add, mod-pow-add, shr-shr}
 use Rattle.kinds.specs.Types.{bytes_for}
 use Rattle.bits.specs.Bits.{bit, bit_at, number, packed}
 use Rattle.bits.specs.Moves.{from}
 use Rattle.bits.proofs.Numbers.{bit-zero, bit-suc, number_ext, number_lt, number_bits, number-add, number_lowest}
 use Rattle.bits.proofs.Bytes.{Bytes, bit_at_in, bit_at_lt, length-packed}
-use Rattle.numerals.proofs.Halves.{halves}
 
 -- ---- bytes as a number
 
@@ -49,17 +48,26 @@ module _ (xs : List ℕ) (h : Bytes xs) where
       let rest = number_ext (8 * j) (λ k. f (8 + k)) (from (8 * (length xs - j)) (bit_at xs)) (λ k lk. ap (bit_at xs) (omega arith)) in
       sym (ap (λ (n : ℕ). number n f) more ∙ number-add 8 (8 * j) f ∙ ap₂ (λ (a b : ℕ). a + 256 * b) (byte_bits j l) rest ∙ omega arith)
 
+pub ruleset front_laws = (front_all, front_fits, front_step)
+
 -- the lowest bits of all
-pub lowest_bits : (xs : List ℕ) (width : ℕ) → 1 ≤ width → length xs ≡ bytes_for width
-    → bit_and (number (8 * length xs) (bit_at xs)) (2 ^ (width - 1) - 1 + 2 ^ (width - 1)) ≡ number width (bit_at xs)
-lowest_bits xs width some e =
-    let two = halves width some in
-    let ones : 2 ^ (width - 1) - 1 + 2 ^ (width - 1) ≡ 2 ^ width - 1 = omega arith in
+pub lowest_bits : (xs : List ℕ) (width : ℕ) → width ≤ 64 → length xs ≡ bytes_for width
+    → bit_and (number (8 * length xs) (bit_at xs)) (0xFFFFFFFFFFFFFFFF / 2 ^ (64 - width)) ≡ number width (bit_at xs)
+lowest_bits xs width w e =
     let all : 8 * length xs ≡ width + (8 * length xs - width) = omega arith in
     ap (bit_and (number (8 * length xs) (bit_at xs))) ones
     ∙ and_mask (number (8 * length xs) (bit_at xs)) width
     ∙ ap (λ (n : ℕ). number n (bit_at xs) % 2 ^ width) all
     ∙ number_lowest width (8 * length xs - width) (bit_at xs) (bit_at_lt xs)
+  where
+    below : (a b : ℕ) → 0 < a → 0 < b → b * a ≡ 2 ^ 64 → 0xFFFFFFFFFFFFFFFF / a ≡ b - 1
+    below a zero some none is = absurd (omega arith)
+    below a (suc k) some none is = div-eq_of_lt-le {k = k} a (omega (arith, suc-mul k a)) (omega arith) ∙ omega arith
+
+    ones : 0xFFFFFFFFFFFFFFFF / 2 ^ (64 - width) ≡ 2 ^ width - 1
+    ones =
+        let both : width + (64 - width) ≡ 64 = omega arith in
+        below (2 ^ (64 - width)) (2 ^ width) (pow_pos (64 - width)) (pow_pos width) (sym (pow-add 2 width (64 - width)) ∙ ap (λ (n : ℕ). 2 ^ n) both)
 
 -- ---- a number as bytes
 
@@ -85,23 +93,36 @@ unfolding bit
 bit_behind x i k = ap (λ (n : ℕ). n % 2) (sym (shr-shr x i k))
 
 -- byte j of n
-pub byte_at : (n x j : ℕ) → j < n → x / 2 ^ (8 * (n - 1 - j)) % 256 ≡ get_or (packed n (bit x)) j 0
-byte_at n x j l =
+byte_of_number : (n x j : ℕ) → j < n → x / 2 ^ (8 * (n - 1 - j)) % 256 ≡ get_or (packed n (bit x)) j 0
+byte_of_number n x j l =
     let i : ℕ = 8 * (n - 1 - j) in
     sym (byte_of n (bit x) j l ∙ number_ext 8 (λ k. bit x (i + k)) (bit (x / 2 ^ i)) (λ k lk. bit_behind x i k) ∙ number-mod 8 (x / 2 ^ i))
 
--- a copy of all bytes
-pub pasted : (xs ys : List ℕ) (n : ℕ) → n ≡ length xs → length ys ≡ length xs → paste xs 0 ys n ≡ ys
-pasted xs ys n e same =
-    ap (λ (l : List ℕ). l ++ drop (0 + n) xs) (take_all n ys (omega arith))
-    ∙ ap (λ (l : List ℕ). ys ++ l) (drop_of_length-le xs {i = 0 + n} (omega arith))
-    ∙ append-nil ys
+-- the j first bytes written
+pub written : List ℕ → ℕ → ℕ → List ℕ
+written xs x j = paste xs 0 (packed (length xs) (bit x)) j
 
--- a byte more of a number
-pub put_step : (xs ys : List ℕ) (x j b : ℕ) → j < length xs → length ys ≡ length xs → ys ≡ paste xs 0 (packed (length xs) (bit x)) j
-    → b ≡ x / 2 ^ (8 * (length ys - 1 - j)) % 256 → set ys j b ≡ paste xs 0 (packed (length xs) (bit x)) (j + 1)
-put_step xs ys x j b l same e is =
+pub written_none : (xs : List ℕ) (x : ℕ) → xs ≡ written xs x 0
+unfolding written
+written_none xs x = refl
+
+pub written_more : (xs ys : List ℕ) (x j m : ℕ) → j < length xs → length ys ≡ length xs → m ≡ length xs - j → ys ≡ written xs x j
+    → set ys j (bit_and (x / 2 ^ (8 * (m - 1))) 255) ≡ written xs x (j + 1)
+unfolding written
+written_more xs ys x j m l same behind e =
     let s = packed (length xs) (bit x) in
-    let byte : b ≡ get_or s j 0 = is ∙ ap (λ (n : ℕ). x / 2 ^ (8 * (n - 1 - j)) % 256) same ∙ byte_at (length xs) x j l in
+    let n = x / 2 ^ (8 * (length xs - 1 - j)) in
+    let place : m - 1 ≡ length xs - 1 - j = omega arith in
+    let byte : bit_and (x / 2 ^ (8 * (m - 1))) 255 ≡ get_or s j 0 = ap (λ (k : ℕ). bit_and (x / 2 ^ (8 * k)) 255) place ∙ and_mask n 8 ∙ byte_of_number (length xs) x j l in
     let long = length-packed (length xs) (bit x) in
     rw (e, byte, add-one j) (ap (λ (n : ℕ). set (paste xs 0 s j) n (get_or s j 0)) (sym (zero-add j)) ∙ paste-suc xs 0 s j 0 (omega arith) (omega arith))
+
+pub written_all : (xs : List ℕ) (x j : ℕ) → j ≡ length xs → written xs x j ≡ packed (length xs) (bit x)
+unfolding written
+written_all xs x j e =
+    let s = packed (length xs) (bit x) in
+    ap (λ (l : List ℕ). l ++ drop (0 + j) xs) (take_all j s (omega (arith, length-packed (length xs) (bit x))))
+    ∙ ap (λ (l : List ℕ). s ++ l) (drop_of_length-le xs {i = 0 + j} (omega arith))
+    ∙ append-nil s
+
+pub ruleset written_laws = (written_none, written_more, written_all)

@@ -17,11 +17,11 @@ module _ (b c : ℕ) (some : 0 < b) where
   digits_all h (suc n) x = rw (lt-ltb (x % b) c (omega (arith, mod-lt x some)), digits_all h n (x / b))
 
   -- in a base that is not greater they say no more
-  pub rebased-le : c ≤ b → (n x : ℕ) → rebased b c n x ≤ x
+  pub rebased_le : c ≤ b → (n x : ℕ) → rebased b c n x ≤ x
   unfolding rebased
-  rebased-le h zero x = omega arith
-  rebased-le h (suc n) x =
-      let rest = mul-le-mul h (rebased-le h n (x / b)) in
+  rebased_le h zero x = omega arith
+  rebased_le h (suc n) x =
+      let rest = mul-le-mul h (rebased_le h n (x / b)) in
       omega (arith, mod-add-div x b)
 
   -- n digits of a base are below its n-th power
@@ -81,6 +81,8 @@ module _ (b c n k x : ℕ) (l : k < n) where
 pub digits_done : (b c n k x : ℕ) → k ≡ n → digits_below b c (n - k) x ≡ true
 unfolding digits_below
 digits_done b c n k x e = let none : n - k ≡ 0 = omega arith in rw none
+
+pub ruleset digit_laws = (digits_step, digits_wrong, digits_done)
 
 -- what is made of the first digits, and what the others make: `count` is what the last of the first counts
 module _ (b c : ℕ) where

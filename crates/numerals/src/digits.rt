@@ -7,14 +7,11 @@ pub fn power_of_ten(digits: usize) -> u64
     requires { digits ≤ 16 }
     ensures { result ≡ 10 ^ digits }
 {
-    let mut power = 1;
-    for _ in 0..digits {
-        power = power * 10;
-    }
-    power
+    10u64.pow(digits as u32)
 }
 
-// Whether the lowest digits in base 16 are digits in base 10.
+// Whether the lowest digits in base 16 are digits in base 10. A loop, since a chain would have to carry the rest from digit to digit.
+#[tactic(auto, using(crate::proofs::Rebased::digit_laws))]
 pub fn are_decimal(digits: usize, number: u64) -> bool
     ensures { result ≡ digits_below 16 10 digits number }
 {
@@ -23,12 +20,12 @@ pub fn are_decimal(digits: usize, number: u64) -> bool
         if 9 < rest % 16 {
             return false;
         }
-        rest = rest / 16;
+        rest /= 16;
     }
     true
 }
 
-// The lowest digits in one base, taken as digits in another.
+// The lowest digits in one base, taken as digits in another. A loop, since a chain would have to carry all three numbers.
 pub fn rebase(from: u64, to: u64, digits: usize, number: u64) -> u64
     requires from_nonzero { 0 < from }
     requires to_nonzero { 0 < to }
@@ -41,9 +38,9 @@ pub fn rebase(from: u64, to: u64, digits: usize, number: u64) -> u64
     let mut counts = 1;
     let mut made = number % from;
     for _ in 1..digits {
-        rest = rest / from;
-        counts = counts * to;
-        made = made + rest % from * counts;
+        rest /= from;
+        counts *= to;
+        made += rest % from * counts;
     }
     made
 }

@@ -1,46 +1,40 @@
-// An i64 as its sign and its magnitude. The least i64 has a magnitude that no i64 has, so one is added or taken away among unsigned numbers.
-ghost use Rattle.std.specs.Prelude.{◌≡◌, pos, nat_abs};
-ghost use Rattle.std.specs.Int.Signed.{lt_z};
+// An i64 as its sign and its magnitude. The least i64 has a magnitude that no i64 has.
+ghost use Rattle.std.specs.Prelude.{◌≡◌};
 ghost use Rattle.std.specs.Int.{w64};
 ghost use Rattle.std.proofs.Common.{SFits};
 ghost use Rattle.numerals.specs.CodeSigned.{integer};
 
-#[derive(Clone, Copy)]
+#[derive(Clone, Copy, Debug, PartialEq, Eq)]
 pub struct Signed {
     pub negative: bool,
     pub magnitude: u64,
 }
 
-impl Signed {
-    pub fn of_value(value: i64) -> Signed
-        ensures negative_value { result.negative ≡ lt_z value (pos 0) }
-        ensures magnitude_value { result.magnitude ≡ nat_abs value }
-    {
-        if value < 0 {
-            let from_minus_one = (-1 - value) as u64;
-            return Signed {
-                negative: true,
-                magnitude: from_minus_one + 1,
-            };
-        }
+impl From<i64> for Signed {
+    ghost use Rattle.std.specs.Prelude.{◌≡◌, pos, nat_abs};
+    ghost use Rattle.std.specs.Int.Signed.{lt_z};
+
+    ghost from_gives = { λ value signed. (signed.negative ≡ lt_z value (pos 0)) × (signed.magnitude ≡ nat_abs value) };
+
+    fn from(value: i64) -> Signed {
         Signed {
-            negative: false,
-            magnitude: value as u64,
+            negative: value < 0,
+            magnitude: value.unsigned_abs(),
         }
     }
+}
 
-    // The second zero of an encoding, which is negative here, is 0.
+impl Signed {
+    // Wrapping, the least i64 is the negative of itself. The second zero of an encoding, which is negative here, is 0.
     pub fn value(self) -> i64
         requires { SFits w64 (integer self) }
         ensures { result ≡ integer self }
     {
-        let magnitude = self.magnitude;
+        let magnitude = self.magnitude.cast_signed();
         if self.negative {
-            if magnitude == 0 {
-                return 0;
-            }
-            return -1 - (magnitude - 1) as i64;
+            magnitude.wrapping_neg()
+        } else {
+            magnitude
         }
-        magnitude as i64
     }
 }

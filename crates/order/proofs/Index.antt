@@ -105,8 +105,8 @@ get_d_ordered ReorderPairs xs j l =
 get_d_ordered Reverse xs j l = get_d_reverse xs j l
 
 -- the byte at k is the one that is ordered to j
-pub ordered-from : (o : ByteOrder) (xs : List ℕ) (j k : ℕ) → j < length xs → turned o (length xs) j ≡ k → get_or xs k 0 ≡ get_or (ordered o xs) j 0
-ordered-from o xs j k l e = sym (get_d_ordered o xs j l ∙ ap (λ (n : ℕ). get_or xs n 0) e)
+pub ordered_from : (o : ByteOrder) (xs : List ℕ) (j k : ℕ) → j < length xs → turned o (length xs) j ≡ k → get_or xs k 0 ≡ get_or (ordered o xs) j 0
+ordered_from o xs j k l e = sym (get_d_ordered o xs j l ∙ ap (λ (n : ℕ). get_or xs n 0) e)
 
 -- ---- ordering twice gives the bytes back
 

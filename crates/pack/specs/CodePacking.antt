@@ -2,10 +2,11 @@
 use Rattle.std.specs.Prelude.{ℕ, ◌-◌, ◌*◌, ◌%◌, min, Bool, cond, ◌&&◌, List, length, eqb, ltb, leb}
 use Rattle.kinds.specs.Types.{bytes_for}
 use Rattle.bits.specs.Bits.{bit, bit_at}
-use Rattle.masks.specs.Mask.{Mask, no_mask, plain_mask, condensed_mask}
+use Rattle.masks.specs.Mask.{Mask, no_mask, plain_mask, condensed_mask, mask_of}
 use Rattle.masks.specs.Plain.{bit_of_mask}
 use Rattle.condensed.specs.Condensed.{replaced}
 use Rattle.pack.specs.declared.Packing.{Packing}
+use Rattle.pack.specs.declared.source.Source as code
 use Rattle.pack.specs.Source.{Source}
 
 -- bits from the lowest: those of the tail's bytes, of the data, and of the head, a number
@@ -26,6 +27,10 @@ packed_bits_under (condensed_mask mask) p xs i = replaced mask xs i
 
 abbrev pub packed_source : Packing → Mask → List ℕ → Source
 packed_source p mask xs = record { size = p.bit_len.0; bits = packed_bits_under mask p xs; mask = mask }
+
+-- a source as the code has it
+abbrev pub source_of : code.Source → Source
+source_of s = packed_source s.packing (mask_of s.mask) s.data.bytes.now
 
 -- bytes as they are: a number's bits before them, and some equal bytes after them
 abbrev pub framing : ℕ → ℕ → ℕ → ℕ → ℕ → Packing

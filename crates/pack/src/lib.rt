@@ -1,17 +1,22 @@
 // The source of a write: bits of the input and of what stands before and after it, read by index. Nothing is copied.
 #![tactic(auto)]
 
+mod source; // source.rt: a source with its data and its mask
+
 ghost use Rattle.std.specs.Prelude.{◌≡◌, cond, ◌+◌, ◌*◌, ◌%◌, ◌^◌, ◌<◌, ◌≤◌, length, eqb};
 ghost use Rattle.bits.specs.Moves.{injected};
-ghost use Rattle.masks.specs.Mask.{mask_of, plain_if};
+ghost use Rattle.masks.specs.Mask.{mask_of, plain_of};
+ghost use Rattle.pack.specs.Source.{size_under};
 ghost use Rattle.pack.specs.CodePacking.{framed_bit, packed_bit, packed_bits_under, framing, aligning, packing};
 
-use kinds::{BitLength, ByteCount};
-use masks::MaskUse;
+use kinds::{BitLength, ByteCount, Lent};
+use masks::Mask;
+pub use source::Source;
 
 // How data are packed: the bits of a head, the data, which are the first `data_len` bytes of the input, and some equal bytes
 // as a tail. Of all this `bit_len` bits are written, from the lowest, and of the last byte no more than `last_bits`.
-#[derive(Clone, Copy)]
+// That the tail is short is asked of the functions: packings are compared as a whole, which a ghost field would not allow.
+#[derive(Clone, Copy, Debug, PartialEq, Eq)]
 pub struct Packing {
     pub bit_len: BitLength,
     pub head: usize,
@@ -22,18 +27,18 @@ pub struct Packing {
 }
 
 // Bit i of the head, the data and the tail.
-fn framed_bit(packing: Packing, data: &[u8], i: usize) -> u8
-    requires data_len_bound { length «data».now ≤ 65535 }
+#[tactic(auto, using(bits::proofs::Stores::bit_code), unfolding(crate::specs::CodePacking::framed_bit))]
+fn framed_bit(packing: Packing, data: Lent, i: usize) -> u8
     requires tail_len_bound { packing.tail_len.0 < 2 ^ 32 }
-    ensures { result ≡ framed_bit packing «data».now i }
+    ensures { result ≡ framed_bit packing «data».entry.bytes.now i }
 {
     let after = packing.tail_len.bit_end();
     if i < after {
         return bits::bit_of(packing.tail, i);
     }
-    let end = ByteCount(data.len()).bit_end();
+    let end = ByteCount(data.bytes.len()).bit_end();
     if i - after < end {
-        return bits::bit_at(data, i - after);
+        return bits::bit_at(data.bytes, i - after);
     }
     let above = i - after - end;
     if above < 64 {
@@ -43,50 +48,46 @@ fn framed_bit(packing: Packing, data: &[u8], i: usize) -> u8
 }
 
 // Bit i of the packed data.
-fn packed_bit(packing: Packing, data: &[u8], i: usize) -> u8
-    requires data_len_bound { length «data».now ≤ 65535 }
+#[tactic(auto, unfolding(crate::specs::CodePacking::packed_bit))]
+fn packed_bit(packing: Packing, data: Lent, i: usize) -> u8
     requires tail_len_bound { packing.tail_len.0 < 2 ^ 32 }
-    ensures { result ≡ packed_bit packing «data».now i }
+    ensures { result ≡ packed_bit packing «data».entry.bytes.now i }
 {
-    if i < 8 {
-        if packing.last_bits.bits() <= i {
-            return 0;
-        }
+    if i < 8 && packing.last_bits.bits() <= i {
+        return 0;
     }
     framed_bit(packing, data, i)
 }
 
 // Bit i of the packed data, and under a plain mask that bit or zero.
-fn source_bit(packing: Packing, data: &[u8], masked: bool, mask: &[u8], i: usize) -> u8
-    requires data_len_bound { length «data».now ≤ 65535 }
+#[tactic(auto, using(crate::proofs::Packed::under_plain))]
+fn source_bit(packing: Packing, data: Lent, mask: Option<&[u8]>, i: usize) -> u8
     requires tail_len_bound { packing.tail_len.0 < 2 ^ 32 }
-    ensures { result ≡ packed_bits_under (plain_if masked mask.now) packing «data».now i }
+    ensures { result ≡ packed_bits_under (plain_of mask.entry) packing «data».entry.bytes.now i }
 {
     let bit_value = packed_bit(packing, data, i);
-    if masked {
-        return bit_value & masks::mask_bit_at(mask, i);
+    match mask {
+        Some(plain) => bit_value & masks::mask_bit_at(plain, i),
+        None => bit_value,
     }
-    bit_value
 }
 
 // ORs the packed data into the destination from a bit position on.
+#[tactic(auto, using(crate::proofs::Packed::bits_packed, bits::proofs::Steps::injected_none, bits::proofs::Steps::injected_step))]
 pub fn inject_bits(
     packing: Packing,
-    data: &[u8],
-    masked: bool,
-    mask: &[u8],
+    data: Lent,
+    mask: Option<&[u8]>,
     bit_pos: usize,
     dst_data: &mut [u8],
 )
-    requires data_len_bound { length «data».now ≤ 65535 }
     requires tail_len_bound { packing.tail_len.0 < 2 ^ 32 }
     requires dst_data_len_bound { length dst_data.old ≤ 65535 }
     requires bit_len_bound { bit_pos + packing.bit_len.0 ≤ 8 * length dst_data.old }
-    ensures { dst_data.new ≡ injected packing.bit_len.0 bit_pos (packed_bits_under (plain_if masked mask.now) packing «data».now) dst_data.old }
+    ensures { dst_data.new ≡ injected packing.bit_len.0 bit_pos (packed_bits_under (plain_of mask.entry) packing «data».entry.bytes.now) dst_data.old }
 {
-    let bit_len = packing.bit_len;
-    for i in 0..bit_len.bits() {
-        let bit_value = source_bit(packing, data, masked, mask, i);
+    for i in 0..packing.bit_len.bits() {
+        let bit_value = source_bit(packing, data, mask, i);
         bits::set_bit_at(dst_data, bit_pos + i, bit_value, false);
     }
 }
@@ -95,46 +96,30 @@ pub fn inject_bits(
 fn bits_of_last_byte(bit_len: BitLength) -> BitLength
     ensures { result.0 ≡ cond (eqb (bit_len.0 % 8) 0) 8 (bit_len.0 % 8) }
 {
-    let remainder = bit_len.remainder();
-    if remainder.bits() == 0 {
-        return BitLength(8);
+    match bit_len.remainder() {
+        BitLength(0) => BitLength(8),
+        remainder => remainder,
     }
-    remainder
 }
 
 // So many bytes of data for `bit_len` bits: the last ones for numeric types, and the first for byte types.
 fn align(bit_len: BitLength, data_len: ByteCount, byte_type: bool) -> Packing
     ensures { result ≡ aligning byte_type bit_len.0 data_len.0 }
 {
-    let byte_count = bit_len.byte_count();
-    let last_bits = bits_of_last_byte(bit_len);
-    if !byte_type {
-        return Packing {
-            bit_len,
-            head: 0,
-            data_len,
-            tail: 0,
-            tail_len: ByteCount(0),
-            last_bits,
-        };
-    }
-    if data_len.bytes() < byte_count.bytes() {
-        return Packing {
-            bit_len,
-            head: 0,
-            data_len,
-            tail: 0,
-            tail_len: ByteCount(byte_count.bytes() - data_len.bytes()),
-            last_bits,
-        };
-    }
+    let given = data_len.bytes();
+    let needed = bit_len.byte_count().bytes();
+    let (taken, zeros) = if byte_type {
+        (given.min(needed), needed.saturating_sub(given))
+    } else {
+        (given, 0)
+    };
     Packing {
         bit_len,
         head: 0,
-        data_len: byte_count,
+        data_len: ByteCount(taken),
         tail: 0,
-        tail_len: ByteCount(0),
-        last_bits,
+        tail_len: ByteCount(zeros),
+        last_bits: bits_of_last_byte(bit_len),
     }
 }
 
@@ -161,19 +146,15 @@ pub fn frame(
 }
 
 // How a field of `bit_len` bits takes so many bytes of data. A condensed mask takes them as they are.
-pub fn pack_data(
-    bit_len: BitLength,
-    mask_use: MaskUse,
-    mask: &[u8],
-    data_len: ByteCount,
-    byte_type: bool,
-) -> Packing
-    requires { length mask.now ≤ 65535 }
-    ensures { result ≡ packing (mask_of mask_use mask.now) byte_type bit_len.0 data_len.0 }
+pub fn pack_data(bit_len: BitLength, mask: Mask, data_len: ByteCount, byte_type: bool) -> Packing
+    requires { size_under (mask_of mask) bit_len.0 < 2 ^ 32 }
+    ensures { result ≡ packing (mask_of mask.entry) byte_type bit_len.0 data_len.0 }
 {
-    match mask_use {
-        MaskUse::Absent => align(bit_len, data_len, byte_type),
-        MaskUse::Plain => align(bit_len, data_len, byte_type),
-        MaskUse::Condensed => frame(ByteCount(mask.len()), 0, data_len, 0, ByteCount(0)),
+    match mask {
+        Mask::Absent | Mask::Plain(_) => align(bit_len, data_len, byte_type),
+        Mask::Condensed(condensed) => {
+            let byte_count = ByteCount(condensed.len());
+            frame(byte_count, 0, data_len, 0, ByteCount(0))
+        }
     }
 }

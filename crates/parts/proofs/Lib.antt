@@ -1,3 +1,2 @@
--- The laws of a part that is handed back, and that no second answer fits.
-pub mod HandedBack
+-- No second answer fits the contract of a part.
 pub mod OneAnswer

@@ -1,7 +1,10 @@
 -- RULES 6: the part of a payload that a read with a byte count given at run time hands back.
-use Rattle.std.specs.Prelude.{ℕ, ◌*◌, cond, not, ◌&&◌, List, [], length, eqb, ltb}
+use Rattle.std.specs.Prelude.{◌≡◌, ℕ, ◌*◌, cond, not, ◌&&◌, List, [], length, eqb, ltb, Result, Ok, Err}
+use Rattle.std.specs.Borrow.{Bor}
+use Rattle.kinds.specs.declared.lent.Lent.{Lent}
+use Rattle.kinds.specs.declared.refusals.Failure.{Failure}
 use Rattle.kinds.specs.Answers.{read}
-use Rattle.kinds.specs.Slices.{saturating_sum, cut}
+use Rattle.kinds.specs.Slices.{saturating_sum, cut, place_behind}
 use Rattle.kinds.specs.Outcomes.{Outcome, gives, unless_short, Answer, answer, concluded}
 
 -- 30 only; that part of the payload, unordered; count 0 gives the empty part at any position
@@ -17,3 +20,14 @@ part_answer = concluded [] (λ part. answer (read (8 * length part) (length part
 -- where a part of so many bytes starts, and 0 where it is empty
 abbrev pub part_start : ℕ → ℕ → ℕ
 part_start size at = cond (eqb size 0) 0 at
+
+-- ---- the answer of the code
+
+-- a refusal hands back nothing
+abbrev pub part_in : Result Lent Failure → List ℕ
+part_in (Ok part) = part.bytes.now
+part_in (Err failure) = []
+
+-- a part lies in the payload where it was asked for
+abbrev pub LiesIn : ℕ → Bor (List ℕ) → Lent → Type 0
+LiesIn at payload part = part.bytes.ref_ptr ≡ place_behind (part_start (length part.bytes.now) at) payload.ref_ptr

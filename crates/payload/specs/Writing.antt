@@ -3,7 +3,7 @@ use Rattle.std.specs.Prelude.{ℕ, ◌+◌, ◌-◌, max, List, [], ◌∷◌, �
 use Rattle.kinds.specs.declared.types.ByteOrder.{ByteOrder}
 use Rattle.kinds.specs.Types.{bytes_for}
 use Rattle.kinds.specs.declared.refusals.Refusal.TheVariants.{BitPositionAboveSeven, PayloadLacksRoom}
-use Rattle.kinds.specs.declared.refusals.Check.{Check}
+use Rattle.kinds.specs.Answers.{Check}
 use Rattle.kinds.specs.Slices.{saturating_sum, cut}
 use Rattle.kinds.specs.Outcomes.{rule, first_among, Outcome, gives, after, unless_short}
 use Rattle.order.specs.Order.{ordered}

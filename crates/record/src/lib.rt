@@ -6,5 +6,5 @@ mod parsing; // parsing.rt: from the numbers of a record to the coded type that 
 mod recorded; // recorded.rt: what a call that takes a record refuses before it has a coded type
 
 pub use numbers::{Flags, Numbers, RECORD_SIZE, read16};
-pub use parsing::{OptionalCoded, OptionalTermination, OptionalType, OptionalVariant, parse};
-pub use recorded::{Recorded, coded_by_record};
+pub use parsing::parse;
+pub use recorded::coded_by_record;

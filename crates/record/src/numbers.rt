@@ -9,7 +9,7 @@ use kinds::ByteCount;
 pub const RECORD_SIZE: usize = 16;
 
 // The four flags, and the bits beside them.
-#[derive(Clone, Copy)]
+#[derive(Clone, Copy, Debug, PartialEq, Eq)]
 pub struct Flags {
     pub high_low: bool,
     pub mask: bool,
@@ -18,7 +18,8 @@ pub struct Flags {
     pub others: u8,
 }
 
-#[derive(Clone, Copy)]
+// What stands in a record, and no kinds yet: `parse` makes those, or finds that there are none.
+#[derive(Clone, Copy, Debug, PartialEq, Eq)]
 pub struct Numbers {
     pub type_code: u8,
     pub flags: Flags,

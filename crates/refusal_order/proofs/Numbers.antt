@@ -5,11 +5,10 @@ use mathlib.Core.List.{List}
 use Prim.Native.Nat.{ℕ}
 use lib.ListN.{length}
 use lib.Dec.{ltb}
+use Rattle.std.specs.Prelude.{Ok, Err}
 use Rattle.kinds.specs.declared.refusals.Refusal.{Refusal}
 use Rattle.kinds.specs.declared.refusals.Refusal.TheVariants.{OutputLacksRoom}
-use Rattle.kinds.specs.declared.refusals.Check.{Check}
-use Rattle.kinds.specs.declared.refusals.Check.TheVariants.{Passed, Refused}
-use Rattle.kinds.specs.Answers.{number_of, number_in}
+use Rattle.kinds.specs.Answers.{Check, passed, number_of, number_in}
 use Rattle.kinds.specs.Outcomes.{or_else, Outcome, gives, lacks, refuses, after, unless_short, Answer, concluded}
 use Rattle.unpack.specs.Found.{Found, filled, read_answer}
 
@@ -26,7 +25,7 @@ none a = 0
 module _ {A : Type 0} (k : A → ℕ) where
   -- a rule, and what comes where its test does not hold
   pub step : (t : Bool) (r : Refusal) (c : Check) (o : Outcome A) {n : ℕ} → (t ≡ false → ended (after c o) k ≡ n)
-      → ended (after (cond t (Refused r) c) o) k ≡ cond t (number_of r) n
+      → ended (after (cond t (Err r) c) o) k ≡ cond t (number_of r) n
   step true r c o f = refl
   step false r c o f = f refl
 
@@ -36,8 +35,8 @@ module _ {A : Type 0} (k : A → ℕ) where
 
   -- one check after another
   pub in_turn : (c d : Check) (o : Outcome A) {n : ℕ} → ended (after c (after d o)) k ≡ n → ended (after (or_else c d) o) k ≡ n
-  in_turn Passed d o e = e
-  in_turn (Refused r) d o e = e
+  in_turn (Ok done) d o e = e
+  in_turn (Err r) d o e = e
 
   pub concluded-number : {B : Type 0} (old : B) (made : A → Answer B) → ((a : A) → number_in (made a).report ≡ k a) → (o : Outcome A)
       → number_in (concluded old made o).report ≡ ended o k
@@ -49,7 +48,7 @@ module _ {A : Type 0} (k : A → ℕ) where
 abbrev pub room : List ℕ → Found → ℕ
 room output f = cond (ltb (length output) (length f.bytes)) 41 0
 
-roomy : (t : Bool) (output : List ℕ) (f : Found) → number_in (concluded output (filled output) (after (cond t (Refused OutputLacksRoom) Passed) (gives f))).report ≡ cond t 41 0
+roomy : (t : Bool) (output : List ℕ) (f : Found) → number_in (concluded output (filled output) (after (cond t (Err OutputLacksRoom) passed) (gives f))).report ≡ cond t 41 0
 roomy true output f = refl
 roomy false output f = refl
 

@@ -6,29 +6,26 @@ use Prim.Native.Nat.{ℕ, ◌≤◌}
 use lib.ListN.{length}
 use lib.Dec.{eqb, ltb, leb}
 use borrow.Author.Tests.{ltb-false}
+use Rattle.std.specs.Prelude.{Option, Some, None, is_none}
 use Rattle.kinds.specs.Types.{is_numeric, is_unicode_type}
 use Rattle.kinds.specs.Slices.{cut}
 use Rattle.kinds.specs.Outcomes.{Outcome, gives, after, following}
 use Rattle.kinds.proofs.Outcomes.{following-after}
-use Rattle.coded.specs.declared.variants.OptionalPlace.{OptionalPlace}
-use Rattle.coded.specs.declared.variants.OptionalPlace.TheVariants as place
+use Rattle.coded.specs.declared.variants.Place.{Place}
 use Rattle.coded.specs.declared.variants.DiagCodedTypeVariant.{DiagCodedTypeVariant}
 use Rattle.coded.specs.declared.variants.DiagCodedTypeVariant.TheVariants.{LeadingLengthInfo, MinMaxLength, StandardLength, ParamLengthInfo}
 use Rattle.coded.specs.declared.coded_type.DiagCodedType.{DiagCodedType}
 use Rattle.coded.specs.Refusals.{some_max, finds_its_length, odd_limits, limits_refusal, coded_type_refusal, made_refusal}
 use Rattle.field.specs.Field.{Field, field_of, outside, store_place}
 use Rattle.field.specs.Refusals.{slices_refusal, place_refusal, description_refusal}
-use Rattle.record.specs.declared.parsing.OptionalCoded.{OptionalCoded}
-use Rattle.record.specs.declared.parsing.OptionalCoded.TheVariants as coded
 use Rattle.record.specs.Numbers.{record_size}
 use Rattle.record.specs.Parsing.{coded_in}
 use Rattle.record.specs.Recorded.{well_formed}
 use Rattle.table.specs.declared.Header.{Header}
-use Rattle.table.specs.declared.OptionalHeader.TheVariants as header
 use Rattle.table.specs.declared.Entry.{Entry}
 use Rattle.table.specs.Table.{said_by, record_place, is_wrong, entry, record_fetched, fetched_under, fetched}
 use Rattle.calls.specs.Calls.{Description, by_type, by_record, called}
-use Rattle.refusal_order.specs.RefusalsInOrder.{Row, first_number, any_above, is_outside, lower_limit, upper_limit, is_malformed, type_in, of_call, fetch_order}
+use Rattle.refusal_order.specs.RefusalsInOrder.{Row, first_number, any_above, is_outside, lower_limit, upper_limit, type_in, of_call, fetch_order}
 use Rattle.refusal_order.proofs.Numbers.{none, ended, step, in_turn}
 
 -- two tests for one number
@@ -59,9 +56,9 @@ description_rows store t n =
     (cond (odd_limits t.type_ && is_unicode_type t.base_datatype) 11 n))))
 
 module _ {A : Type 0} (k : A → ℕ) where
-  place-number : (p : OptionalPlace) (store : ℕ) (o : Outcome A) {n : ℕ} → ended o k ≡ n → ended (after (place_refusal p store) o) k ≡ cond (is_outside p store) 42 n
-  place-number (place.At p) store o e = step k (outside p store) _ _ o (λ z. e)
-  place-number place.Absent store o e = e
+  place-number : (p : Option Place) (store : ℕ) (o : Outcome A) {n : ℕ} → ended o k ≡ n → ended (after (place_refusal p store) o) k ≡ cond (is_outside p store) 42 n
+  place-number (Some p) store o e = step k (outside p store) _ _ o (λ z. e)
+  place-number None store o e = e
 
   limits_number : (v : DiagCodedTypeVariant) (o : Outcome A) {n : ℕ} → ended o k ≡ n
       → ended (after (limits_refusal v) o) k ≡ cond (some_max (λ n. eqb n 0) (upper_limit v)) 12 (cond (some_max (λ n. ltb n (lower_limit v)) (upper_limit v)) 13 n)
@@ -81,15 +78,13 @@ module _ {A : Type 0} (k : A → ℕ) where
       → ended (after (description_refusal t store) o) k ≡ description_rows store t n
   description_number t store o f =
       in_turn k (place_refusal (store_place t.type_) store) (made_refusal t) o
-      (place-number (store_place t.type_) store (after (made_refusal t) o)
-      (in_turn k (limits_refusal t.type_) (coded_type_refusal t.base_datatype t.type_) o
-      (limits_number t.type_ (after (coded_type_refusal t.base_datatype t.type_) o) (coded_number t o f))))
+      (place-number (store_place t.type_) store _ (in_turn k (limits_refusal t.type_) _ o (limits_number t.type_ _ (coded_number t o f))))
 
   -- 42 of a record, and then the description's
-  said_number : (said : OptionalCoded) (store : ℕ) (own : DiagCodedType → Outcome A) (n : DiagCodedType → ℕ) → ((t : DiagCodedType) → NotTen t → ended (own t) k ≡ n t)
-      → ended (following (well_formed said) (λ t. after (description_refusal t store) (own t))) k ≡ cond (is_malformed said) 42 (description_rows store (type_in said) (n (type_in said)))
-  said_number (coded.Coded t) store own n f = description_number t store (own t) (f t)
-  said_number coded.Malformed store own n f = refl
+  said_number : (said : Option DiagCodedType) (store : ℕ) (own : DiagCodedType → Outcome A) (n : DiagCodedType → ℕ) → ((t : DiagCodedType) → NotTen t → ended (own t) k ≡ n t)
+      → ended (following (well_formed said) (λ t. after (description_refusal t store) (own t))) k ≡ cond (is_none said) 42 (description_rows store (type_in said) (n (type_in said)))
+  said_number (Some t) store own n f = description_number t store (own t) (f t)
+  said_number None store own n f = refl
 
   -- 43 and 44 of a call's slices
   slices_number : (bytes store a b used : ℕ) (o : Outcome A) {n : ℕ} → (a ≤ 65535 → ended o k ≡ n)
@@ -110,22 +105,21 @@ module _ {A : Type 0} (k : A → ℕ) where
     abbrev next : DiagCodedType → Outcome A
     next t = after (description_refusal t (length store)) (own t)
 
-    led_number : (bytes : ℕ) (said : OptionalCoded)
+    led_number : (bytes : ℕ) (said : Option DiagCodedType)
         → ended (following (after (slices_refusal bytes (length store) a b used) (well_formed said)) next) k
         ≡ cond ((ltb 65535 bytes || any_above 65535 sizes) || ltb 32768 (length store)) 43
-        (cond used_above 44 (cond (is_malformed said) 42 (description_rows (length store) (type_in said) (first_number (rows (field_of (type_in said) store))))))
+        (cond used_above 44 (cond (is_none said) 42 (description_rows (length store) (type_in said) (first_number (rows (field_of (type_in said) store))))))
     led_number bytes said =
         rw (these, above, following-after (slices_refusal bytes (length store) a b used) (well_formed said) next)
-        (slices_number bytes (length store) a b used (following (well_formed said) next)
-        (λ few. said_number said (length store) own (λ t. first_number (rows (field_of t store))) (λ t. f t few)))
+        (slices_number bytes (length store) a b used _ (λ few. said_number said (length store) own (λ t. first_number (rows (field_of t store))) (λ t. f t few)))
 
     pub called-number : (d : Description) → ended (called d store a b used own) k ≡ first_number (of_call d store sizes used_above rows)
-    called-number (by_type t) = led_number 0 (coded.Coded t)
+    called-number (by_type t) = led_number 0 (Some t)
     called-number (by_record bytes) = led_number (length bytes) (coded_in bytes)
 
 -- a fetch
 under : (table : List ℕ) (number : ℕ) (h : Header) (wrong : Bool) (k : Entry → ℕ) {n : ℕ} → ended (record_fetched table h number) k ≡ n
-    → ended (fetched_under table number (cond wrong header.Malformed (header.Valid h))) k ≡ cond wrong 45 n
+    → ended (fetched_under table number (cond wrong None (Some h))) k ≡ cond wrong 45 n
 under table number h true k e = refl
 under table number h false k e = e
 
@@ -138,4 +132,4 @@ fetched-number table number =
     step k (ltb 65535 (length table)) _ _ _
     (λ z. under table number h (is_wrong table h) k
     (step k (leb h.count number) _ _ _ (λ z. said_number k said h.store_len.0 (λ t. gives (entry h number t)) (λ t. 0) (λ t z. refl))
-    ∙ sym (either (leb h.count number) (is_malformed said) 42 _)))
+    ∙ sym (either (leb h.count number) (is_none said) 42 _)))

@@ -2,17 +2,14 @@
 -- given, and the first row whose test holds counts. So a test may rest on those before it: what a length field says means something only
 -- where the field is inside the payload. Sums saturate at 2^64-1: in `saturating_sum`, `cut_end`,
 -- `leading_start`, `leading_end` and `min_max_end`.
-use Rattle.std.specs.Prelude.{ℕ, ◌+◌, ◌-◌, ◌*◌, ◌^◌, ◌%◌, ◌≡◌, Bool, true, false, cond, not, ◌&&◌, ◌||◌, List, [], ◌∷◌, length, eqb, ltb, leb, ℤ}
+use Rattle.std.specs.Prelude.{ℕ, ◌+◌, ◌-◌, ◌*◌, ◌^◌, ◌%◌, ◌≡◌, Bool, true, false, cond, not, ◌&&◌, ◌||◌, List, [], ◌∷◌, length, eqb, ltb, leb, Option, Some, None, is_none, unwrap_or, ℤ}
 use Rattle.kinds.specs.declared.types.DataType.{DataType}
 use Rattle.kinds.specs.declared.types.DataType.TheVariants.{Int32, UInt32, Float32, Float64}
 use Rattle.kinds.specs.declared.types.ByteOrder.{ByteOrder}
 use Rattle.kinds.specs.Types.{among, is_byte_type, is_numeric, is_unicode_type, bytes_for}
 use Rattle.kinds.specs.Slices.{saturating_sum, cut}
 use Rattle.kinds.specs.Answers.{number_in}
-use Rattle.coded.specs.declared.variants.OptionalPlace.{OptionalPlace}
-use Rattle.coded.specs.declared.variants.OptionalPlace.TheVariants as place
-use Rattle.coded.specs.declared.variants.MaxLength.{MaxLength}
-use Rattle.coded.specs.declared.variants.MaxLength.TheVariants.{Unlimited}
+use Rattle.coded.specs.declared.variants.Place.{Place}
 use Rattle.coded.specs.declared.variants.MinMaxLengthType.{MinMaxLengthType}
 use Rattle.coded.specs.declared.variants.DiagCodedTypeVariant.{DiagCodedTypeVariant}
 use Rattle.coded.specs.declared.variants.DiagCodedTypeVariant.TheVariants.{LeadingLengthInfo, MinMaxLength, StandardLength, ParamLengthInfo}
@@ -23,8 +20,6 @@ use Rattle.masks.specs.Mask.{Mask}
 use Rattle.field.specs.declared.Shape.{Shape}
 use Rattle.field.specs.declared.Shape.TheVariants as shape
 use Rattle.field.specs.Field.{Field, field_of, outside, store_place}
-use Rattle.record.specs.declared.parsing.OptionalCoded.{OptionalCoded}
-use Rattle.record.specs.declared.parsing.OptionalCoded.TheVariants as coded
 use Rattle.record.specs.Numbers.{record_size}
 use Rattle.record.specs.Parsing.{coded_in}
 use Rattle.table.specs.Table.{said_by, record_place, is_wrong}
@@ -38,8 +33,6 @@ use Rattle.lengths.specs.Refusals.{condensed_bits, until_end_of_pdu}
 use Rattle.writers.specs.Shapes.{with_terminator}
 use Rattle.bits.specs.Bits.{bit_at, number}
 use Rattle.encodings.specs.declared.forms.Encoding.{Encoding}
-use Rattle.encodings.specs.declared.forms.OptionalEncoding.{OptionalEncoding}
-use Rattle.encodings.specs.declared.forms.OptionalEncoding.TheVariants.{Known, Unknown}
 use Rattle.encodings.specs.Widths.{encoding_of, fits}
 use Rattle.encodings.specs.Meaning.{legal_digits}
 use Rattle.encodings.specs.Writing.{in_range}
@@ -69,9 +62,9 @@ any_above limit [] = false
 any_above limit (n ∷ ns) = ltb limit n || any_above limit ns
 
 -- a part that is outside a store of so many bytes
-abbrev pub is_outside : OptionalPlace → ℕ → Bool
-is_outside (place.At p) store = outside p store
-is_outside place.Absent store = false
+abbrev pub is_outside : Option Place → ℕ → Bool
+is_outside (Some p) store = outside p store
+is_outside None store = false
 
 -- the limits of a variant; what has none has no maximum
 abbrev pub lower_limit : DiagCodedTypeVariant → ℕ
@@ -80,11 +73,11 @@ lower_limit (LeadingLengthInfo bits) = 0
 lower_limit (StandardLength s) = 0
 lower_limit (ParamLengthInfo name) = 0
 
-abbrev pub upper_limit : DiagCodedTypeVariant → MaxLength
+abbrev pub upper_limit : DiagCodedTypeVariant → Option ℕ
 upper_limit (MinMaxLength m) = m.max_length
-upper_limit (LeadingLengthInfo bits) = Unlimited
-upper_limit (StandardLength s) = Unlimited
-upper_limit (ParamLengthInfo name) = Unlimited
+upper_limit (LeadingLengthInfo bits) = None
+upper_limit (StandardLength s) = None
+upper_limit (ParamLengthInfo name) = None
 
 -- a byte type, bit position not 0
 abbrev pub at_bit_position : DataType → ℕ → Bool
@@ -125,15 +118,11 @@ prefix c own =
     ∷ (11 when odd_limits v && is_unicode_type t)
     ∷ own
 
-abbrev pub is_malformed : OptionalCoded → Bool
-is_malformed (coded.Coded t) = false
-is_malformed coded.Malformed = true
-
 -- the coded type; where there is none 42 is given before it counts, and any will do
-abbrev pub type_in : OptionalCoded → DiagCodedType
-type_in (coded.Coded t) = t
-type_in coded.Malformed =
-    record { base_datatype = UInt32; type_ = ParamLengthInfo (record { at = 0; len = record { 0 = 0 } }); is_high_low_byte_order = true }
+abbrev pub type_in : Option DiagCodedType → DiagCodedType
+type_in said =
+    unwrap_or said
+    (record { base_datatype = UInt32; type_ = ParamLengthInfo (record { at = 0; len = record { 0 = 0 } }); is_high_low_byte_order = true })
 
 -- a call that takes a description and a store, and slices of these sizes; 45 is of a table alone
 abbrev pub of_call : Description → List ℕ → List ℕ → Bool → (Field → List Row) → List Row
@@ -143,7 +132,7 @@ of_call d store sizes used_above own =
       slice_too_long = any_above 65535 (record_bytes d ∷ sizes) || ltb 32768 (length store);
       used_above_slice = used_above;
       table_wrong = false;
-      record_malformed_or_absent = is_malformed (coded_said d);
+      record_malformed_or_absent = is_none (coded_said d);
       store_length = length store;
       coded_type = type_in (coded_said d);
     })
@@ -305,7 +294,7 @@ fetch_order table number =
       slice_too_long = ltb 65535 (length table);
       used_above_slice = false;
       table_wrong = is_wrong table h;
-      record_malformed_or_absent = leb h.count number || is_malformed said;
+      record_malformed_or_absent = leb h.count number || is_none said;
       store_length = h.store_len.0;
       coded_type = type_in said;
     })
@@ -316,21 +305,21 @@ key_name_order d store = of_call d store [] false (λ f. [])
 
 -- ---- values: 43, 58, and then 60 of a reading and 59 of a writing. What tells no encoding fits no width
 
-abbrev pub read_value_order : OptionalEncoding → ℕ → List ℕ → List Row
-read_value_order (Known e) width xs =
+abbrev pub read_value_order : Option Encoding → ℕ → List ℕ → List Row
+read_value_order (Some e) width xs =
     (43 when ltb 65535 (length xs))
     ∷ (58 when not (fits e width (length xs)))
     ∷ (60 when not (legal_digits e width (number width (bit_at xs))))
     ∷ []
-read_value_order Unknown width xs = (43 when ltb 65535 (length xs)) ∷ (58 when true) ∷ []
+read_value_order None width xs = (43 when ltb 65535 (length xs)) ∷ (58 when true) ∷ []
 
-abbrev pub write_value_order : OptionalEncoding → ℕ → ℤ → List ℕ → List Row
-write_value_order (Known e) width v xs =
+abbrev pub write_value_order : Option Encoding → ℕ → ℤ → List ℕ → List Row
+write_value_order (Some e) width v xs =
     (43 when ltb 65535 (length xs))
     ∷ (58 when not (fits e width (length xs)))
     ∷ (59 when not (in_range e width v))
     ∷ []
-write_value_order Unknown width v xs = (43 when ltb 65535 (length xs)) ∷ (58 when true) ∷ []
+write_value_order None width v xs = (43 when ltb 65535 (length xs)) ∷ (58 when true) ∷ []
 
 -- ---- every call, for every input: the number in its report is that of the first row whose test holds
 
@@ -345,10 +334,10 @@ pub record InOrder : Type 0 where
       → number_in (cleared_field d store p at pos).report ≡ first_number (clear_order d store p at pos)
   pub fetch : (table : List ℕ) (number : ℕ) → number_in (places_fetched table number).report ≡ first_number (fetch_order table number)
   pub key_name : (d : Description) (store : List ℕ) → number_in (key_name d store).report ≡ first_number (key_name_order d store)
-  pub value_read : (e : Encoding) (width : ℕ) (xs : List ℕ) (old : ℤ) → number_in (value_read e width xs old).report ≡ first_number (read_value_order (Known e) width xs)
+  pub value_read : (e : Encoding) (width : ℕ) (xs : List ℕ) (old : ℤ) → number_in (value_read e width xs old).report ≡ first_number (read_value_order (Some e) width xs)
   pub value_read_by_code : (code width : ℕ) (xs : List ℕ) (old : ℤ)
       → number_in (value_read_by_code code width xs old).report ≡ first_number (read_value_order (encoding_of code) width xs)
   pub value_written : (e : Encoding) (width : ℕ) (v : ℤ) (xs : List ℕ)
-      → number_in (value_written e width v xs).report ≡ first_number (write_value_order (Known e) width v xs)
+      → number_in (value_written e width v xs).report ≡ first_number (write_value_order (Some e) width v xs)
   pub value_written_by_code : (code width : ℕ) (v : ℤ) (xs : List ℕ)
       → number_in (value_written_by_code code width v xs).report ≡ first_number (write_value_order (encoding_of code) width v xs)

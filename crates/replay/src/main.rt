@@ -3,6 +3,7 @@
 
 use std::io;
 use std::io::Read;
+use stored_answers::Verdict;
 
 // How many answers were the same, and how many not.
 #[derive(Clone, Copy)]
@@ -12,34 +13,23 @@ struct Counts {
 }
 
 fn counted<R: Read>(input: &mut R) -> io::Result<Counts> {
-    let mut same: u64 = 0;
-    let mut other: u64 = 0;
+    let mut counts = Counts { same: 0, other: 0 };
     // A proved loop has to end, and nothing says that the input does.
-    let mut turns = u64::MAX;
-    while turns > 0 {
-        let verdict = stored_answers::next(input)?;
-        if verdict == stored_answers::END {
-            break;
-        }
-        turns -= 1;
-        if verdict == stored_answers::SAME {
-            same += 1;
-        } else {
-            other += 1;
-            if verdict == stored_answers::CUT {
+    for _ in 0..u64::MAX {
+        match stored_answers::next(input)? {
+            None => break,
+            Some(Verdict::Same) => counts.same += 1,
+            Some(Verdict::Other) => counts.other += 1,
+            Some(Verdict::Cut) => {
+                counts.other += 1;
                 break;
             }
         }
     }
-    Ok(Counts {
-        same: same,
-        other: other,
-    })
+    Ok(counts)
 }
 
 fn main(rt: HostRuntime) -> io::Result<()> {
     let counts = counted(&mut rt.stdin())?;
-    let same = counts.same;
-    let other = counts.other;
-    println!(rt; "{same} the same, {other} not")
+    println!(rt; "{} the same, {} not", counts.same, counts.other)
 }

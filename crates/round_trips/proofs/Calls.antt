@@ -7,10 +7,9 @@ use native.Mathlib.Omega.{arith}
 use lib.ListN.{length}
 use lib.IntN.{ℤ}
 use borrow.Author.Tests.{le-ltb, eq-eqb}
-use Rattle.kinds.specs.declared.refusals.Check.TheVariants.{Passed}
 use Rattle.kinds.specs.Types.{bytes_for}
 use Rattle.kinds.specs.declared.refusals.Refusal.TheVariants.{DigitAboveNine}
-use Rattle.kinds.specs.Answers.{wrote, number_in}
+use Rattle.kinds.specs.Answers.{passed, wrote, number_in}
 use Rattle.kinds.specs.Outcomes.{rule, first_among, gives, after, Answer, answer, concluded}
 use Rattle.bits.specs.Bits.{bit, bit_at, number, packed}
 use Rattle.bits.proofs.Numbers.{bit-lt, number_ext, number_bits}
@@ -24,7 +23,7 @@ use Rattle.encodings.proofs.Meaning.{widths}
 use Rattle.round_trips.specs.RoundTrips.{Sized}
 
 module _ (e : Encoding) (width : ℕ) (a : allowed e width ≡ true) where
-  size_allowed : (xs : List ℕ) → Sized width xs → size_refusal (fits e width (length xs)) (length xs) ≡ Passed
+  size_allowed : (xs : List ℕ) → Sized width xs → size_refusal (fits e width (length xs)) (length xs) ≡ passed
   size_allowed xs s =
       let w = widths e width a in
       rw (le-ltb 65535 (length xs) (omega arith), a, eq-eqb (length xs) (bytes_for width) s)

@@ -17,9 +17,9 @@ use Rattle.encodings.specs.declared.forms.Encoding.TheVariants.{TwosComplement, 
 use Rattle.encodings.specs.Widths.{allowed}
 use Rattle.encodings.specs.Meaning.{meaning, legal_digits}
 use Rattle.encodings.specs.Writing.{height, depth, in_range, pattern_of}
-use Rattle.encodings.specs.CodeSaid.{is_decimal, opposite_of}
+use Rattle.encodings.specs.CodeSaid.{opposite_of}
 use Rattle.round_trips.specs.RoundTrips.{Says}
-use Rattle.encodings.proofs.Meaning.{widths, digits_of, signed_legal, signed_low, signed_high, lower_le, opposite_le, opposite_lt, opposite_back}
+use Rattle.encodings.proofs.Meaning.{is_decimal, widths, digits_of, signed_legal, signed_low, signed_high, lower_le, opposite_le, opposite_lt, opposite_back}
 use Rattle.encodings.proofs.Ranges.{in_above, in_below, bits_below, bits_above}
 
 -- so many digits of four bits

@@ -19,7 +19,6 @@ use Rattle.bits.proofs.Numbers.{bit_of_zero, bit-number, number_lt}
 use Rattle.bits.proofs.Bytes.{bit_at_lt, length-packed, packed_ext, packed_zero}
 use Rattle.bits.proofs.Moves.{first_in, first_out}
 use Rattle.encodings.specs.declared.forms.Encoding.{Encoding}
-use Rattle.encodings.specs.declared.forms.OptionalEncoding.TheVariants.{Known}
 use Rattle.encodings.specs.Widths.{encoding_of, allowed}
 use Rattle.encodings.specs.Meaning.{meaning, legal_digits}
 use Rattle.encodings.specs.Writing.{height, depth, least, greatest, in_range, pattern_of}
@@ -28,6 +27,7 @@ use Rattle.encodings.proofs.Meaning.{widths}
 use Rattle.round_trips.specs.RoundTrips.{Sized, ReadsBack, RoundTrips, AllRoundTrips}
 use Rattle.round_trips.proofs.Patterns.{NoSecondZero, le_above, le_below, number_said, bits_back, said_in_range, zero_bits}
 use Rattle.round_trips.proofs.Calls.{read_of, read_means, written_of, bits_of-packed}
+use Rattle.std.specs.Prelude.{Some}
 
 -- a number has no bits at or above its width
 above_zero : (width x k : ℕ) → x < 2 ^ width → width ≤ k → bit x k ≡ 0
@@ -102,7 +102,7 @@ module _ (e : Encoding) (width : ℕ) (a : allowed e width ≡ true) where
         one_number = one_number;
       }
 
-by_code : (code : ℕ) (e : Encoding) → encoding_of code ≡ Known e → (width : ℕ)
+by_code : (code : ℕ) (e : Encoding) → encoding_of code ≡ Some e → (width : ℕ)
     → ((xs : List ℕ) (old : ℤ) → value_read_by_code code width xs old ≡ value_read e width xs old)
     × ((v : ℤ) (xs : List ℕ) → value_written_by_code code width v xs ≡ value_written e width v xs)
 unfolding value_read_by_code value_written_by_code

@@ -1,12 +1,11 @@
 -- Values there and back. This file states it, of the definitions that the contracts of `read` and `write` cite; proofs/Proved proves it.
-use Rattle.std.specs.Prelude.{◌≡◌, true, List, ℕ, ◌^◌, ◌<◌, length, replicate, ℤ, pos}
+use Rattle.std.specs.Prelude.{◌≡◌, true, List, ℕ, ◌^◌, ◌<◌, length, replicate, ℤ, pos, Some}
 use Rattle.kinds.specs.Types.{bytes_for}
 use Rattle.kinds.specs.Answers.{wrote}
 use Rattle.kinds.specs.Outcomes.{answer}
 use Rattle.bits.specs.Bits.{bit_at, number, packed}
 use Rattle.bits.specs.Moves.{first}
 use Rattle.encodings.specs.declared.forms.Encoding.{Encoding}
-use Rattle.encodings.specs.declared.forms.OptionalEncoding.TheVariants.{Known}
 use Rattle.encodings.specs.Widths.{encoding_of, allowed}
 use Rattle.encodings.specs.Meaning.{meaning, legal_digits}
 use Rattle.encodings.specs.Writing.{least, greatest, in_range, pattern_of}
@@ -49,6 +48,6 @@ pub record RoundTrips (e : Encoding) (width : ℕ) : Type 0 where
 pub record AllRoundTrips : Type 0 where
   pub of_each : (e : Encoding) (width : ℕ) → allowed e width ≡ true → RoundTrips e width
   -- C tells an encoding by its code
-  pub by_code : (code : ℕ) (e : Encoding) → encoding_of code ≡ Known e → (width : ℕ)
+  pub by_code : (code : ℕ) (e : Encoding) → encoding_of code ≡ Some e → (width : ℕ)
       → ((xs : List ℕ) (old : ℤ) → value_read_by_code code width xs old ≡ value_read e width xs old)
       × ((v : ℤ) (xs : List ℕ) → value_written_by_code code width v xs ≡ value_written e width v xs)

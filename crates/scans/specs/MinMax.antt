@@ -1,19 +1,17 @@
 -- RULES 5.7 to 5.10: where data bytes between limits end.
-use Rattle.std.specs.Prelude.{ℕ, zero, suc, ◌+◌, ◌-◌, ◌/◌, min, Bool, true, false, cond, ◌&&◌, List, [], ◌∷◌, length, get_or, eqb, ltb, leb}
+use Rattle.std.specs.Prelude.{ℕ, zero, suc, ◌+◌, ◌-◌, ◌/◌, min, Bool, true, false, cond, ◌&&◌, List, [], ◌∷◌, length, get_or, eqb, ltb, leb, None, Option, Some}
 use Rattle.kinds.specs.Slices.{saturating_sum}
 use Rattle.kinds.specs.declared.refusals.Refusal.TheVariants.{ScanPastPayload}
-use Rattle.kinds.specs.declared.refusals.Check.{Check}
 use Rattle.kinds.specs.Outcomes.{rule, first_among}
-use Rattle.coded.specs.declared.variants.MaxLength.{MaxLength}
-use Rattle.coded.specs.declared.variants.MaxLength.TheVariants.{Most, Unlimited}
 use Rattle.coded.specs.declared.variants.Termination.{Termination}
 use Rattle.coded.specs.declared.variants.Termination.TheVariants.{EndOfPdu, Zero, HexFF}
 use Rattle.coded.specs.declared.variants.MinMaxLengthType.{MinMaxLengthType}
+use Rattle.kinds.specs.Answers.{Check}
 
 -- the smaller of byte_pos+max and the payload's end; no max: the payload's end
-abbrev pub end_by_max : MaxLength → ℕ → ℕ → ℕ
-end_by_max (Most most) at n = min (saturating_sum at most) n
-end_by_max Unlimited at n = n
+abbrev pub end_by_max : Option ℕ → ℕ → ℕ → ℕ
+end_by_max (Some most) at n = min (saturating_sum at most) n
+end_by_max None at n = n
 
 -- the payload has the byte x at p
 abbrev pub has_at : ℕ → List ℕ → ℕ → Bool

@@ -3,8 +3,9 @@
 
 mod filling; // filling.rt: a buffer, filled from the input
 mod head; // head.rt: the head of a stored answer, taken apart
-mod slices; // slices.rt: parts of bytes, lent
-mod repeats; // repeats.rt: the four calls, each compared with its stored answer
-mod answers; // answers.rt: a stored answer, read and handed to its call
+mod part; // part.rt: a part of a stored answer
+mod stored; // stored.rt: a stored answer, and what becomes of it
+mod answers; // answers.rt: the answers of an input, one after the other
 
-pub use answers::{CUT, END, SAME, next};
+pub use answers::next;
+pub use stored::Verdict;

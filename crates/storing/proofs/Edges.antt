@@ -11,15 +11,13 @@ use Rattle.kinds.specs.Answers.{wrote}
 use Rattle.kinds.specs.Outcomes.{answer}
 use Rattle.kinds.proofs.Outcomes.{both}
 use Rattle.bits.proofs.Bytes.{Bytes}
-use Rattle.coded.specs.declared.variants.OptionalPlace.TheVariants.{At}
-use Rattle.coded.specs.declared.variants.MaxLength.TheVariants.{Most}
 use Rattle.coded.specs.declared.variants.Termination.TheVariants.{HexFF}
 use Rattle.coded.specs.declared.variants.DiagCodedTypeVariant.TheVariants.{MinMaxLength, StandardLength}
 use Rattle.coded.specs.declared.coded_type.DiagCodedType.{DiagCodedType}
-use Rattle.record.specs.declared.parsing.OptionalCoded.TheVariants.{Coded}
 use Rattle.record.specs.Parsing.{coded_of, coded_in}
 use Rattle.storing.specs.Storing.{stored_record}
 use Rattle.storing.proofs.OneToOne.{Storable, stored_parses, parsed_stored, one_record, one_coded_type}
+use Rattle.std.specs.Prelude.{Some}
 
 -- ---- coded types
 
@@ -28,7 +26,7 @@ abbrev longest : DiagCodedType
 longest =
     record {
       base_datatype = UInt32;
-      type_ = StandardLength (record { bit_length = record { 0 = 0xFFFFFFFF }; bit_mask = At (record { at = 65535; len = record { 0 = 65535 } }); condensed = true });
+      type_ = StandardLength (record { bit_length = record { 0 = 0xFFFFFFFF }; bit_mask = Some (record { at = 65535; len = record { 0 = 65535 } }); condensed = true });
       is_high_low_byte_order = true;
     }
 
@@ -40,7 +38,7 @@ abbrev widest : DiagCodedType
 widest =
     record {
       base_datatype = AsciiString;
-      type_ = MinMaxLength (record { min_length = 0xFFFFFFFF; max_length = Most 0xFFFFFFFF; termination = HexFF });
+      type_ = MinMaxLength (record { min_length = 0xFFFFFFFF; max_length = Some 0xFFFFFFFF; termination = HexFF });
       is_high_low_byte_order = false;
     }
 
@@ -48,10 +46,10 @@ widest_storable : Storable widest
 widest_storable = record { length = omega arith; most = omega arith; place = refl }
 
 -- length, place and the part's length at their edges; and the maximum
-pub longest_parses : (old : List ℕ) → coded_in (stored_record longest old).left ≡ Coded longest
+pub longest_parses : (old : List ℕ) → coded_in (stored_record longest old).left ≡ Some longest
 longest_parses old = stored_parses longest old longest_storable
 
-pub widest_parses : (old : List ℕ) → coded_in (stored_record widest old).left ≡ Coded widest
+pub widest_parses : (old : List ℕ) → coded_in (stored_record widest old).left ≡ Some widest
 widest_parses old = stored_parses widest old widest_storable
 
 -- whatever the old bytes were
@@ -77,11 +75,11 @@ longest_bytes = 2 ∷ 7 ∷ 3 ∷ 0 ∷ 255 ∷ 255 ∷ 255 ∷ 255 ∷ 0 ∷ 0 
 abbrev widest_bytes : List ℕ
 widest_bytes = 4 ∷ 8 ∷ 2 ∷ 3 ∷ 255 ∷ 255 ∷ 255 ∷ 255 ∷ 255 ∷ 255 ∷ 255 ∷ 255 ∷ 0 ∷ 0 ∷ 0 ∷ 0 ∷ []
 
-longest_said : coded_in longest_bytes ≡ Coded longest
+longest_said : coded_in longest_bytes ≡ Some longest
 unfolding coded_of
 longest_said = refl
 
-widest_said : coded_in widest_bytes ≡ Coded widest
+widest_said : coded_in widest_bytes ≡ Some widest
 unfolding coded_of
 widest_said = refl
 

@@ -7,32 +7,23 @@ use borrow.Author.Tests.{eqb-true, not-false}
 use Rattle.kinds.specs.declared.types.DataType.{DataType}
 use Rattle.kinds.specs.declared.types.DataType.TheVariants.{Int32, UInt32, Float32, AsciiString, Utf8String, Unicode2String, ByteField, Float64}
 use Rattle.kinds.specs.declared.types.BitLength.{BitLength}
-use Rattle.kinds.specs.Types.{type_code_of}
+use Rattle.kinds.specs.Types.{type_code_of, type_of}
 use Rattle.kinds.proofs.Outcomes.{neither}
 use Rattle.coded.specs.declared.variants.Place.{Place}
-use Rattle.coded.specs.declared.variants.OptionalPlace.{OptionalPlace}
-use Rattle.coded.specs.declared.variants.OptionalPlace.TheVariants.{At, Absent}
-use Rattle.coded.specs.declared.variants.MaxLength.{MaxLength}
-use Rattle.coded.specs.declared.variants.MaxLength.TheVariants.{Most, Unlimited}
 use Rattle.coded.specs.declared.variants.Termination.{Termination}
 use Rattle.coded.specs.declared.variants.Termination.TheVariants.{EndOfPdu, Zero, HexFF}
 use Rattle.coded.specs.declared.variants.DiagCodedTypeVariant.{DiagCodedTypeVariant}
 use Rattle.coded.specs.declared.variants.DiagCodedTypeVariant.TheVariants.{LeadingLengthInfo, MinMaxLength, StandardLength, ParamLengthInfo}
 use Rattle.coded.specs.declared.coded_type.DiagCodedType.{DiagCodedType}
 use Rattle.record.specs.declared.numbers.Numbers.{Numbers}
-use Rattle.record.specs.declared.parsing.OptionalType.{OptionalType}
-use Rattle.record.specs.declared.parsing.OptionalType.TheVariants as type
-use Rattle.record.specs.declared.parsing.OptionalTermination.{OptionalTermination}
-use Rattle.record.specs.declared.parsing.OptionalTermination.TheVariants as termination
-use Rattle.record.specs.declared.parsing.OptionalVariant.{OptionalVariant}
-use Rattle.record.specs.declared.parsing.OptionalVariant.TheVariants as variant
-use Rattle.record.specs.declared.parsing.OptionalCoded.{OptionalCoded}
-use Rattle.record.specs.declared.parsing.OptionalCoded.TheVariants as coded
-use Rattle.record.specs.Parsing.{type_of, termination_of, has_limits, has_mask, has_place, leading_of, limits_by, min_max_of, standard_of, param_of, variant_of, made, coded_of}
-use Rattle.storing.specs.Storing.{termination_code, nowhere, flags, is_limited, most_of, is_placed, place_or_zeros, plain_numbers, variant_numbers, numbers_for}
+use Rattle.record.specs.Parsing.{has_limits, has_mask, has_place, leading_of, limits_by, min_max_of, standard_of, param_of, variant_of, made, coded_of}
+use Rattle.std.specs.Prelude.{is_some, unwrap_or}
+use Rattle.storing.specs.Storing.{nowhere, flags, plain_numbers, variant_numbers, numbers_for}
+use Rattle.std.specs.Prelude.{None, Option, Some}
+use Rattle.coded.specs.Codes.{termination_of, termination_code}
 
 -- the numbers of a coded type say it
-typed : (d : DataType) → type_of (type_code_of d) ≡ type.Known d
+typed : (d : DataType) → type_of (type_code_of d) ≡ Some d
 typed Int32 = refl
 typed UInt32 = refl
 typed Float32 = refl
@@ -42,7 +33,7 @@ typed Unicode2String = refl
 typed ByteField = refl
 typed Float64 = refl
 
-ended : (t : Termination) → termination_of (termination_code t) ≡ termination.Known t
+ended : (t : Termination) → termination_of (termination_code t) ≡ Some t
 ended EndOfPdu = refl
 ended Zero = refl
 ended HexFF = refl
@@ -50,20 +41,20 @@ ended HexFF = refl
 module _ (code : ℕ) (high_low : Bool) where
   -- the variant with these parts is said
   abbrev Said : DiagCodedTypeVariant → Type 0
-  Said v = variant_of (variant_numbers code high_low v) ≡ variant.Known v
+  Said v = variant_of (variant_numbers code high_low v) ≡ Some v
 
-  min_max_said : (min : ℕ) (max : MaxLength) (t : Termination)
+  min_max_said : (min : ℕ) (max : Option ℕ) (t : Termination)
       → Said (MinMaxLength (record { min_length = min; max_length = max; termination = t }))
-  min_max_said min (Most n) t = rw (ended t)
-  min_max_said min Unlimited t = rw (ended t)
+  min_max_said min (Some n) t = rw (ended t)
+  min_max_said min None t = rw (ended t)
 
-  standard_said : (bits : BitLength) (mask : OptionalPlace) (condensed : Bool)
+  standard_said : (bits : BitLength) (mask : Option Place) (condensed : Bool)
       → Said (StandardLength (record { bit_length = bits; bit_mask = mask; condensed = condensed }))
-  standard_said bits (At p) condensed = refl
-  standard_said bits Absent condensed = refl
+  standard_said bits (Some p) condensed = refl
+  standard_said bits None condensed = refl
 
 said : (d : DataType) (high_low : Bool) (v : DiagCodedTypeVariant)
-    → coded_of (variant_numbers (type_code_of d) high_low v) ≡ coded.Coded
+    → coded_of (variant_numbers (type_code_of d) high_low v) ≡ Some
     (record { base_datatype = d; type_ = v; is_high_low_byte_order = high_low })
 unfolding coded_of
 said d high_low (LeadingLengthInfo bits) = rw (typed d)
@@ -71,7 +62,7 @@ said d high_low (MinMaxLength m) = rw (typed d, min_max_said (type_code_of d) hi
 said d high_low (StandardLength s) = rw (typed d, standard_said (type_code_of d) high_low s.bit_length s.bit_mask s.condensed)
 said d high_low (ParamLengthInfo name) = rw (typed d)
 
-pub numbers_say : (t : DiagCodedType) → coded_of (numbers_for t) ≡ coded.Coded t
+pub numbers_say : (t : DiagCodedType) → coded_of (numbers_for t) ≡ Some t
 numbers_say t = said t.base_datatype t.is_high_low_byte_order t.type_
 
 -- what holds of both ways of a test holds of its outcome
@@ -83,9 +74,9 @@ by_code : {A : Type 0} (P : A → Type 0) (c k : ℕ) (x y : A) → (c ≡ k →
 by_code P c k x y f g = by_test P (eqb c k) x y (λ h. f (eqb-true c k h)) (λ h. g)
 
 -- a known type has the code, and a known termination
-abbrev OfType : ℕ → OptionalType → Type 0
-OfType c (type.Known d) = type_code_of d ≡ c
-OfType c type.Unknown = Unit {0}
+abbrev OfType : ℕ → Option DataType → Type 0
+OfType c (Some d) = type_code_of d ≡ c
+OfType c None = Unit {0}
 
 of_type : (c : ℕ) → OfType c (type_of c)
 of_type c =
@@ -93,9 +84,9 @@ of_type c =
     by_code P c 1 _ _ sym (by_code P c 2 _ _ sym (by_code P c 3 _ _ sym (by_code P c 4 _ _ sym
     (by_code P c 5 _ _ sym (by_code P c 6 _ _ sym (by_code P c 7 _ _ sym (by_code P c 8 _ _ sym tt)))))))
 
-abbrev OfTermination : ℕ → OptionalTermination → Type 0
-OfTermination c (termination.Known t) = termination_code t ≡ c
-OfTermination c termination.Unknown = Unit {0}
+abbrev OfTermination : ℕ → Option Termination → Type 0
+OfTermination c (Some t) = termination_code t ≡ c
+OfTermination c None = Unit {0}
 
 of_termination : (c : ℕ) → OfTermination c (termination_of c)
 of_termination c = let P = OfTermination c in by_code P c 1 _ _ sym (by_code P c 2 _ _ sym (by_code P c 3 _ _ sym tt))
@@ -105,15 +96,15 @@ zero_of : (n : ℕ) → not (eqb n 0) ≡ false → 0 ≡ n
 zero_of n e = sym (eqb-true n 0 (not-false (eqb n 0) e))
 
 -- a maximum, and a mask, that is absent where its flag says so
-limited_again : (set : Bool) (most : ℕ) → is_limited (cond set (Most most) Unlimited) ≡ set
+limited_again : (set : Bool) (most : ℕ) → is_some (cond set (Some most) None) ≡ set
 limited_again true most = refl
 limited_again false most = refl
 
-most_again : (set : Bool) (most : ℕ) → (not set && not (eqb most 0)) ≡ false → most_of (cond set (Most most) Unlimited) ≡ most
+most_again : (set : Bool) (most : ℕ) → (not set && not (eqb most 0)) ≡ false → unwrap_or (cond set (Some most) None) 0 ≡ most
 most_again true most e = refl
 most_again false most e = zero_of most e
 
-placed_again : (set : Bool) (p : Place) → is_placed (cond set (At p) Absent) ≡ set
+placed_again : (set : Bool) (p : Place) → is_some (cond set (Some p) None) ≡ set
 placed_again true p = refl
 placed_again false p = refl
 
@@ -125,7 +116,7 @@ module _ (n : Numbers) where
       let len = zero_of n.place.len.0 z.1 in
       λ i. record { at = at i; len = record { 0 = len i } }
 
-  place_again : (set : Bool) → (not set && has_place n) ≡ false → place_or_zeros (cond set (At n.place) Absent) ≡ n.place
+  place_again : (set : Bool) → (not set && has_place n) ≡ false → unwrap_or (cond set (Some n.place) None) nowhere ≡ n.place
   place_again true e = refl
   place_again false e = nowhere_again e
 
@@ -165,9 +156,9 @@ module _ (n : Numbers) (none : 0 ≡ n.flags.others) where
       }
 
   -- a variant is known only from its own numbers
-  abbrev Says : OptionalVariant → Type 0
-  Says (variant.Known v) = variant_numbers n.type_code n.flags.high_low v ≡ n
-  Says variant.Malformed = Unit {0}
+  abbrev Says : Option DiagCodedTypeVariant → Type 0
+  Says (Some v) = variant_numbers n.type_code n.flags.high_low v ≡ n
+  Says None = Unit {0}
 
   plain_says : (variant length : ℕ) (place : Place) → (has_limits n || has_mask n) ≡ false
       → variant ≡ n.variant → length ≡ n.length → place ≡ n.place
@@ -197,15 +188,15 @@ module _ (n : Numbers) (none : 0 ≡ n.flags.others) where
       agree (placed_again n.flags.mask n.place) refl l.1 (sym v) l.0 refl l.2 (place_again n n.flags.mask z.1))
 
   module _ (v : n.variant ≡ 2) (unmarked : (has_mask n || has_place n) ≡ false) where
-    terminated_says : (t : OptionalTermination) → OfTermination n.termination t → Says (limits_by n t)
-    terminated_says (termination.Known t) c =
+    terminated_says : (t : Option Termination) → OfTermination n.termination t → Says (limits_by n t)
+    terminated_says (Some t) c =
         by_test Says (not n.flags.max && not (eqb n.most 0)) _ _ (λ e. tt)
         (λ e.
         let z = neither _ _ unmarked in
         let m = unmasked n z.0 in
         agree m.0 m.1 (limited_again n.flags.max n.most) (sym v) c refl (most_again n.flags.max n.most e)
         (nowhere_again n z.1))
-    terminated_says termination.Unknown c = tt
+    terminated_says None c = tt
 
   min_max_says : n.variant ≡ 2 → Says (min_max_of n)
   min_max_says v =
@@ -221,15 +212,15 @@ module _ (n : Numbers) (none : 0 ≡ n.flags.others) where
 
 -- and a coded type too
 module _ (n : Numbers) where
-  abbrev From : OptionalCoded → Type 0
-  From (coded.Coded t) = numbers_for t ≡ n
-  From coded.Malformed = Unit {0}
+  abbrev From : Option DiagCodedType → Type 0
+  From (Some t) = numbers_for t ≡ n
+  From None = Unit {0}
 
-  made-from : (none : 0 ≡ n.flags.others) (t : OptionalType) (v : OptionalVariant)
+  made-from : (none : 0 ≡ n.flags.others) (t : Option DataType) (v : Option DiagCodedTypeVariant)
       → OfType n.type_code t → Says n none v → From (made t v n.flags.high_low)
-  made-from none (type.Known t) (variant.Known v) e says = rw e says
-  made-from none (type.Known t) variant.Malformed e says = tt
-  made-from none type.Unknown v e says = tt
+  made-from none (Some t) (Some v) e says = rw e says
+  made-from none (Some t) None e says = tt
+  made-from none None v e says = tt
 
   coded_from : From (coded_of n)
   unfolding coded_of
@@ -238,5 +229,5 @@ module _ (n : Numbers) where
       (λ e. made-from (sym e) (type_of n.type_code) (variant_of n) (of_type n.type_code) (variant_says n (sym e)))
       tt
 
-  pub no_others_say : (t : DiagCodedType) → coded_of n ≡ coded.Coded t → numbers_for t ≡ n
+  pub no_others_say : (t : DiagCodedType) → coded_of n ≡ Some t → numbers_for t ≡ n
   no_others_say t e = subst From e coded_from

@@ -1,17 +1,10 @@
 -- RULES 9.5: the record of a coded type.
-use Rattle.std.specs.Prelude.{ℕ, ◌+◌, ◌*◌, ◌/◌, ◌%◌, Bool, true, false, cond, List, [], ◌∷◌, ltb}
+use Rattle.std.specs.Prelude.{ℕ, ◌+◌, ◌*◌, ◌/◌, ◌%◌, Bool, false, cond, List, [], ◌∷◌, ltb}
 use Rattle.kinds.specs.declared.refusals.Refusal.TheVariants.{MalformedRecord}
-use Rattle.kinds.specs.declared.refusals.Check.{Check}
 use Rattle.kinds.specs.Answers.{wrote}
 use Rattle.kinds.specs.Outcomes.{rule, first_among, gives, after, Answer, answer, concluded}
 use Rattle.kinds.specs.Types.{type_code_of}
 use Rattle.coded.specs.declared.variants.Place.{Place}
-use Rattle.coded.specs.declared.variants.OptionalPlace.{OptionalPlace}
-use Rattle.coded.specs.declared.variants.OptionalPlace.TheVariants.{At, Absent}
-use Rattle.coded.specs.declared.variants.MaxLength.{MaxLength}
-use Rattle.coded.specs.declared.variants.MaxLength.TheVariants.{Most, Unlimited}
-use Rattle.coded.specs.declared.variants.Termination.{Termination}
-use Rattle.coded.specs.declared.variants.Termination.TheVariants.{EndOfPdu, Zero, HexFF}
 use Rattle.coded.specs.declared.variants.MinMaxLengthType.{MinMaxLengthType}
 use Rattle.coded.specs.declared.variants.StandardLengthType.{StandardLengthType}
 use Rattle.coded.specs.declared.variants.DiagCodedTypeVariant.{DiagCodedTypeVariant}
@@ -19,31 +12,13 @@ use Rattle.coded.specs.declared.variants.DiagCodedTypeVariant.TheVariants.{Leadi
 use Rattle.coded.specs.declared.coded_type.DiagCodedType.{DiagCodedType}
 use Rattle.record.specs.declared.numbers.Flags.{Flags}
 use Rattle.record.specs.declared.numbers.Numbers.{Numbers}
-
-abbrev pub termination_code : Termination → ℕ
-termination_code EndOfPdu = 1
-termination_code Zero = 2
-termination_code HexFF = 3
+use Rattle.std.specs.Prelude.{is_some, unwrap_or}
+use Rattle.coded.specs.Codes.{termination_code}
+use Rattle.kinds.specs.Answers.{Check}
 
 -- what a variant lacks is 0
 abbrev pub nowhere : Place
 nowhere = record { at = 0; len = record { 0 = 0 } }
-
-abbrev pub is_limited : MaxLength → Bool
-is_limited (Most n) = true
-is_limited Unlimited = false
-
-abbrev pub most_of : MaxLength → ℕ
-most_of (Most n) = n
-most_of Unlimited = 0
-
-abbrev pub is_placed : OptionalPlace → Bool
-is_placed (At p) = true
-is_placed Absent = false
-
-abbrev pub place_or_zeros : OptionalPlace → Place
-place_or_zeros (At p) = p
-place_or_zeros Absent = nowhere
 
 abbrev pub flags : Bool → Bool → Bool → Bool → Flags
 flags high_low mask condensed max = record { high_low = high_low; mask = mask; condensed = condensed; max = max; others = 0 }
@@ -66,11 +41,11 @@ module _ (code : ℕ) (high_low : Bool) where
   min_max_numbers m =
       record {
         type_code = code;
-        flags = flags high_low false false (is_limited m.max_length);
+        flags = flags high_low false false (is_some m.max_length);
         variant = 2;
         termination = termination_code m.termination;
         length = m.min_length;
-        most = most_of m.max_length;
+        most = unwrap_or m.max_length 0;
         place = nowhere;
       }
 
@@ -78,12 +53,12 @@ module _ (code : ℕ) (high_low : Bool) where
   standard_numbers s =
       record {
         type_code = code;
-        flags = flags high_low (is_placed s.bit_mask) s.condensed false;
+        flags = flags high_low (is_some s.bit_mask) s.condensed false;
         variant = 3;
         termination = 0;
         length = s.bit_length.0;
         most = 0;
-        place = place_or_zeros s.bit_mask;
+        place = unwrap_or s.bit_mask nowhere;
       }
 
   abbrev pub variant_numbers : DiagCodedTypeVariant → Numbers

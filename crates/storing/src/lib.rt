@@ -2,116 +2,48 @@
 #![tactic(auto)]
 
 ghost use Rattle.std.specs.Prelude.{◌≡◌, ◌<◌, ◌/◌, ◌%◌};
-ghost use Rattle.kinds.specs.Types.{type_code_of};
 ghost use Rattle.kinds.specs.Answers.{report_of_check};
 ghost use Rattle.kinds.specs.Outcomes.{answer};
-ghost use Rattle.storing.specs.Storing.{termination_code, is_limited, most_of, is_placed, place_or_zeros, plain_numbers, min_max_numbers, standard_numbers, numbers_for, flag, flags_byte, stored_record};
+ghost use Rattle.storing.specs.Storing.{plain_numbers, min_max_numbers, standard_numbers, numbers_for, flag, flags_byte, stored_record};
 
-use coded::{
-    DiagCodedType, DiagCodedTypeVariant, MaxLength, MinMaxLengthType, OptionalPlace, Place,
-    StandardLengthType, Termination,
-};
-use kinds::{ByteCount, Check, DataType, Refusal};
+use coded::{DiagCodedType, DiagCodedTypeVariant, MinMaxLengthType, Place, StandardLengthType};
+use kinds::{ByteCount, Refusal};
 use record::{Flags, Numbers, RECORD_SIZE};
 
-fn type_code(base_datatype: DataType) -> u8
-    ensures { result ≡ type_code_of base_datatype }
-{
-    match base_datatype {
-        DataType::Int32 => 1,
-        DataType::UInt32 => 2,
-        DataType::Float32 => 3,
-        DataType::AsciiString => 4,
-        DataType::Utf8String => 5,
-        DataType::Unicode2String => 6,
-        DataType::ByteField => 7,
-        DataType::Float64 => 8,
-    }
-}
-
-fn termination_code(termination: Termination) -> u8
-    ensures { result ≡ termination_code termination }
-{
-    match termination {
-        Termination::EndOfPdu => 1,
-        Termination::Zero => 2,
-        Termination::HexFF => 3,
-    }
-}
-
-fn is_limited(max_length: MaxLength) -> bool
-    ensures { result ≡ is_limited max_length }
-{
-    match max_length {
-        MaxLength::Most(_) => true,
-        MaxLength::Unlimited => false,
-    }
-}
-
-fn most(max_length: MaxLength) -> u32
-    ensures { result ≡ most_of max_length }
-{
-    match max_length {
-        MaxLength::Most(most) => most,
-        MaxLength::Unlimited => 0,
-    }
-}
-
-fn is_placed(place: OptionalPlace) -> bool
-    ensures { result ≡ is_placed place }
-{
-    match place {
-        OptionalPlace::At(_) => true,
-        OptionalPlace::Absent => false,
-    }
-}
-
-fn place_or_zeros(place: OptionalPlace) -> Place
-    ensures { result ≡ place_or_zeros place }
-{
-    match place {
-        OptionalPlace::At(there) => there,
-        OptionalPlace::Absent => Place {
-            at: 0,
-            len: ByteCount(0),
-        },
-    }
-}
+// What stands where there is no place.
+const NOWHERE: Place = Place {
+    at: 0,
+    len: ByteCount(0),
+};
 
 fn min_max_numbers(type_code: u8, high_low: bool, limits: MinMaxLengthType) -> Numbers
     ensures { result ≡ min_max_numbers type_code high_low limits }
 {
-    let max_length = limits.max_length;
-    let termination = limits.termination;
     Numbers {
         type_code,
         flags: Flags {
             high_low,
             mask: false,
             condensed: false,
-            max: is_limited(max_length),
+            max: limits.max_length.is_some(),
             others: 0,
         },
         variant: 2,
-        termination: termination_code(termination),
+        termination: u8::from(limits.termination),
         length: limits.min_length,
-        most: most(max_length),
-        place: Place {
-            at: 0,
-            len: ByteCount(0),
-        },
+        most: limits.max_length.unwrap_or(0),
+        place: NOWHERE,
     }
 }
 
 fn standard_numbers(type_code: u8, high_low: bool, standard: StandardLengthType) -> Numbers
     ensures { result ≡ standard_numbers type_code high_low standard }
 {
-    let bit_mask = standard.bit_mask;
     Numbers {
         type_code,
         flags: Flags {
             high_low,
-            mask: is_placed(bit_mask),
+            mask: standard.bit_mask.is_some(),
             condensed: standard.condensed,
             max: false,
             others: 0,
@@ -120,29 +52,18 @@ fn standard_numbers(type_code: u8, high_low: bool, standard: StandardLengthType)
         termination: 0,
         length: standard.bit_length.number(),
         most: 0,
-        place: place_or_zeros(bit_mask),
+        place: standard.bit_mask.unwrap_or(NOWHERE),
     }
 }
 
 fn numbers_for(coded_type: DiagCodedType) -> Numbers
     ensures { result ≡ numbers_for coded_type }
 {
-    let base_datatype = coded_type.base_datatype;
-    let code = type_code(base_datatype);
+    let code = u8::from(coded_type.base_datatype);
     let high_low = coded_type.is_high_low_byte_order;
-    let type_ = coded_type.type_;
-    match type_ {
+    match coded_type.type_ {
         DiagCodedTypeVariant::LeadingLengthInfo(bits) => {
-            plain_numbers(
-                code,
-                high_low,
-                1,
-                bits.number(),
-                Place {
-                    at: 0,
-                    len: ByteCount(0),
-                },
-            )
+            plain_numbers(code, high_low, 1, bits.number(), NOWHERE)
         }
         DiagCodedTypeVariant::MinMaxLength(limits) => min_max_numbers(code, high_low, limits),
         DiagCodedTypeVariant::StandardLength(standard) => {
@@ -199,16 +120,17 @@ fn digit(number: u32, weight: u32) -> u8
 }
 
 // 42 where a place of the store is past what 16 bits can say; the record is then as it came.
-pub fn record_of(coded_type: DiagCodedType, record: &mut [u8; RECORD_SIZE]) -> Check
+#[tactic(auto, unfolding(crate::specs::Storing::stored_record))]
+pub fn record_of(coded_type: DiagCodedType, record: &mut [u8; RECORD_SIZE]) -> Result<(), Refusal>
     ensures { answer (report_of_check result) «record».new ≡ stored_record coded_type «record».old }
 {
     let numbers = numbers_for(coded_type);
     let bytes = numbers.place.len.bytes();
     if 65535 < numbers.place.at {
-        return Check::Refused(Refusal::MalformedRecord);
+        return Err(Refusal::MalformedRecord);
     }
     if 65535 < bytes {
-        return Check::Refused(Refusal::MalformedRecord);
+        return Err(Refusal::MalformedRecord);
     }
     let flags = flags_byte(numbers.flags);
     let at = numbers.place.at as u32;
@@ -231,5 +153,5 @@ pub fn record_of(coded_type: DiagCodedType, record: &mut [u8; RECORD_SIZE]) -> C
         digit(len, 256),
         digit(len, 1),
     ];
-    Check::Passed
+    Ok(())
 }

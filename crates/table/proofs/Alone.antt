@@ -10,15 +10,15 @@ use Rattle.kinds.specs.Outcomes.{rule, first_among, Outcome, after}
 use Rattle.record.specs.Numbers.{record_size}
 use Rattle.kinds.specs.Slices.{cut}
 use Rattle.table.specs.declared.Entry.{Entry}
-use Rattle.table.specs.declared.OptionalHeader.{OptionalHeader}
-use Rattle.table.specs.declared.OptionalHeader.TheVariants.{Valid, Malformed}
 use Rattle.table.specs.Table.{header_size, record_place, header_of, fetched_under, fetched}
+use Rattle.std.specs.Prelude.{None, Option, Some}
+use Rattle.table.specs.declared.Header.{Header}
 
 -- under one header
-under : (s t : List ℕ) (number : ℕ) (h : OptionalHeader) → cut (record_place number) record_size s ≡ cut (record_place number) record_size t
+under : (s t : List ℕ) (number : ℕ) (h : Option Header) → cut (record_place number) record_size s ≡ cut (record_place number) record_size t
     → fetched_under s number h ≡ fetched_under t number h
-under s t number (Valid h) one = rw one
-under s t number Malformed one = refl
+under s t number (Some h) one = rw one
+under s t number None one = refl
 
 pub that_record_alone : (s t : List ℕ) (number : ℕ) → length s ≡ length t → ((i : ℕ) → i < header_size → get_or s i 0 ≡ get_or t i 0)
     → cut (record_place number) record_size s ≡ cut (record_place number) record_size t → fetched s number ≡ fetched t number

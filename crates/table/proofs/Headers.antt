@@ -8,16 +8,15 @@ use lib.Dec.{eqb, ltb}
 use borrow.Author.Tests.{eqb-true, not-false}
 use Rattle.kinds.proofs.Outcomes.{neither}
 use Rattle.table.specs.declared.Header.{Header}
-use Rattle.table.specs.declared.OptionalHeader.{OptionalHeader}
-use Rattle.table.specs.declared.OptionalHeader.TheVariants.{Valid, Malformed}
 use Rattle.table.specs.Table.{header_size, is_marked, said_by, total_size, is_wrong, header_of}
+use Rattle.std.specs.Prelude.{None, Option, Some}
 
 -- the total size that a valid header says
-abbrev Total : ℕ → OptionalHeader → Type 0
-Total size (Valid h) = total_size h ≡ size
-Total size Malformed = Unit {0}
+abbrev Total : ℕ → Option Header → Type 0
+Total size (Some h) = total_size h ≡ size
+Total size None = Unit {0}
 
-total_if : (size : ℕ) (wrong : Bool) (h : Header) → (wrong ≡ false → total_size h ≡ size) → Total size (cond wrong Malformed (Valid h))
+total_if : (size : ℕ) (wrong : Bool) (h : Header) → (wrong ≡ false → total_size h ≡ size) → Total size (cond wrong None (Some h))
 total_if size true h f = tt
 total_if size false h f = f refl
 
@@ -27,6 +26,6 @@ right_size table h e =
     let others = ltb (length table) header_size || not (is_marked table) || ltb 1024 h.count || ltb 32768 h.store_len.0 in
     sym (eqb-true (length table) (total_size h) (not-false total (neither others (not total) e).1))
 
-pub total_size_lem : (table : List ℕ) (h : Header) → Valid h ≡ header_of table → total_size h ≡ length table
+pub total_size_lem : (table : List ℕ) (h : Header) → Some h ≡ header_of table → total_size h ≡ length table
 total_size_lem table h e =
     subst (Total (length table)) (sym e) (total_if (length table) (is_wrong table (said_by table)) (said_by table) (right_size table (said_by table)))

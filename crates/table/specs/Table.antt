@@ -9,11 +9,9 @@ use Rattle.record.specs.Numbers.{be16, record_size}
 use Rattle.record.specs.Parsing.{coded_in}
 use Rattle.record.specs.Recorded.{well_formed}
 use Rattle.table.specs.declared.Header.{Header}
-use Rattle.table.specs.declared.OptionalHeader.{OptionalHeader}
-use Rattle.table.specs.declared.OptionalHeader.TheVariants as header
 use Rattle.table.specs.declared.Entry.{Entry}
-use Rattle.table.specs.declared.Fetched.{Fetched}
-use Rattle.table.specs.declared.Fetched.TheVariants as fetch
+use Rattle.std.specs.Prelude.{Err, None, Ok, Option, Result, Some}
+use Rattle.kinds.specs.declared.refusals.Refusal.{Refusal}
 
 -- mark `DCT`, version 1 in 16 bits
 abbrev pub is_marked : List ℕ → Bool
@@ -42,8 +40,8 @@ is_wrong table h =
     || ltb store_limit h.store_len.0
     || not (eqb (length table) (total_size h))
 
-abbrev pub header_of : List ℕ → OptionalHeader
-header_of table = cond (is_wrong table (said_by table)) header.Malformed (header.Valid (said_by table))
+abbrev pub header_of : List ℕ → Option Header
+header_of table = cond (is_wrong table (said_by table)) None (Some (said_by table))
 
 -- the coded type, where the record starts, where the store starts, and the store's length
 abbrev pub entry : Header → ℕ → DiagCodedType → Entry
@@ -58,15 +56,10 @@ record_fetched table h number =
     (λ t. after (description_refusal t h.store_len.0) (gives (entry h number t))))
 
 -- 45
-abbrev pub fetched_under : List ℕ → ℕ → OptionalHeader → Outcome Entry
-fetched_under table number (header.Valid h) = record_fetched table h number
-fetched_under table number header.Malformed = refuses MalformedTable
+abbrev pub fetched_under : List ℕ → ℕ → Option Header → Outcome Entry
+fetched_under table number (Some h) = record_fetched table h number
+fetched_under table number None = refuses MalformedTable
 
 -- 43, 45, then the record's own
 unfoldable pub fetched : List ℕ → ℕ → Outcome Entry
 fetched table number = after (first_among (rule (ltb slice_limit (length table)) SliceTooLong ∷ [])) (fetched_under table number (header_of table))
-
--- the answers of the code
-abbrev pub outcome_of_fetched : Fetched → Outcome Entry
-outcome_of_fetched (fetch.Found e) = gives e
-outcome_of_fetched (fetch.Refused r) = refuses r

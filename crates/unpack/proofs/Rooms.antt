@@ -4,11 +4,8 @@ use mathlib.Core.List.{List, ◌++◌}
 use Prim.Native.Nat.{ℕ, ◌+◌, ◌*◌, ◌≤◌, ◌<◌}
 use lib.ListN.{length, drop}
 use borrow.Author.Tests.{lt-ltb, le-ltb}
-use Rattle.kinds.specs.declared.types.BitLength.{BitLength}
-use Rattle.kinds.specs.declared.types.ByteCount.{ByteCount}
 use Rattle.kinds.specs.declared.refusals.Refusal.TheVariants.{OutputLacksRoom}
-use Rattle.kinds.specs.declared.refusals.Check.TheVariants.{Passed}
-use Rattle.kinds.specs.Answers.{refused, read}
+use Rattle.kinds.specs.Answers.{refused, read, passed}
 use Rattle.kinds.specs.Outcomes.{gives, answer}
 use Rattle.unpack.specs.Found.{Found, read_answer}
 use Rattle.unpack.specs.Unpacked.{unpack_refusal}
@@ -24,10 +21,6 @@ module _ (f : Found) (output : List ℕ) (n : ℕ) (e : length f.bytes ≡ n) wh
   unfolding read_answer
   has_room h = rw (le-ltb (length output) (length f.bytes) (rw e h), e)
 
-  -- the same read off the code's values: the counts are those found, and the output has the bytes in front
-  pub has_room_by : n ≤ length output → (b : BitLength) (k : ByteCount) (xs : List ℕ) → n ≡ k.0 → f.bits ≡ b.0 → xs ≡ f.bytes
-      → answer (read b.0 k.0) (xs ++ drop n output) ≡ read_answer output (gives f)
-  has_room_by h b k xs en eb ex = rw (has_room h, eb, ex, en)
-
-pub fits : (len pos n : ℕ) → pos ≤ 7 → pos + len ≤ 8 * n → unpack_refusal len pos n ≡ Passed
+-- neither 26 nor 27
+pub fits : (len pos n : ℕ) → pos ≤ 7 → pos + len ≤ 8 * n → unpack_refusal len pos n ≡ passed
 fits len pos n p h = rw (le-ltb 7 pos p, le-ltb (8 * n) (pos + len) h)

@@ -1,8 +1,7 @@
 -- RULES 5.14: what a reading finds, and what becomes of the output.
 use Rattle.std.specs.Prelude.{ℕ, List, [], ◌∷◌, ◌++◌, length, drop, ltb}
 use Rattle.kinds.specs.declared.refusals.Refusal.TheVariants.{OutputLacksRoom}
-use Rattle.kinds.specs.declared.refusals.Check.{Check}
-use Rattle.kinds.specs.Answers.{read}
+use Rattle.kinds.specs.Answers.{read, Check}
 use Rattle.kinds.specs.Outcomes.{rule, first_among, Outcome, gives, after, following, Answer, answer, concluded}
 
 -- the bit count, and the bytes

@@ -1,7 +1,6 @@
 -- RULES 5.1 to 5.4: what is taken from a field's ordered bytes, under its mask.
 use Rattle.std.specs.Prelude.{ℕ, ◌+◌, ◌*◌, List, [], ◌∷◌, length, ltb}
 use Rattle.kinds.specs.declared.refusals.Refusal.TheVariants.{BitPositionAboveSeven, BitsPastCut}
-use Rattle.kinds.specs.declared.refusals.Check.{Check}
 use Rattle.kinds.specs.Outcomes.{rule, first_among, Outcome, gives, after}
 use Rattle.bits.specs.Bits.{bit_at}
 use Rattle.bits.specs.Moves.{from, extracted}
@@ -10,6 +9,7 @@ use Rattle.masks.specs.Mask.{Mask, no_mask, plain_mask, condensed_mask}
 use Rattle.masks.specs.Plain.{masked}
 use Rattle.condensed.specs.Condensed.{condensed_count, condensed}
 use Rattle.unpack.specs.Found.{Found, found}
+use Rattle.kinds.specs.Answers.{Check}
 
 -- 26: bit position above 7; 27: bit position + length above 8 x cut bytes
 abbrev pub unpack_refusal : ℕ → ℕ → ℕ → Check

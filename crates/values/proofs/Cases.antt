@@ -1,40 +1,29 @@
--- The ways through the two calls: what a size that passes tells, and what bits say that are no refusal.
-use mathlib.Core.Path.{◌≡◌, refl, ap, ◌∙◌}
+-- What a size that fits tells, and that what bits say fits an i64 where it is no refusal.
+use mathlib.Core.Path.{◌≡◌, refl}
 use mathlib.Core.Bool.{Bool, true, false, not}
 use mathlib.Core.List.{List, [], ◌∷◌}
 use Prim.Native.Nat.{ℕ, ◌^◌, ◌<◌}
 use native.Mathlib.Omega.{arith}
 use lib.ListN.{length}
-use lib.Dec.{ltb, eqb}
-use lib.IntN.{ℤ, pos, negsuc, nat_abs}
-use lib.Signed.{lt_z}
+use lib.Dec.{eqb}
+use lib.IntN.{ℤ}
 use mir.Syntax.{w64}
 use mir.Val.{SFits}
-use borrow.Author.Tests.{not-false, eqb-true, le-ltb}
-use Rattle.kinds.specs.declared.refusals.Refusal.TheVariants.{SliceTooLong, WidthNotAllowed, DigitAboveNine}
-use Rattle.kinds.specs.declared.refusals.Check.TheVariants.{Passed}
-use Rattle.kinds.specs.Slices.{slice_limit}
+use borrow.Author.Tests.{eqb-true}
+use Rattle.kinds.specs.declared.refusals.Refusal.TheVariants.{DigitAboveNine}
 use Rattle.kinds.specs.Types.{bytes_for}
-use Rattle.kinds.specs.Outcomes.{rule, first_among, Outcome, gives, after, Answer, concluded}
-use Rattle.kinds.proofs.Outcomes.{both, rule_passed}
+use Rattle.kinds.specs.Outcomes.{rule, first_among, gives, after}
+use Rattle.kinds.proofs.Outcomes.{both}
 use Rattle.bits.specs.Bits.{bit_at, number}
 use Rattle.bits.proofs.Numbers.{number_lt}
 use Rattle.bits.proofs.Bytes.{bit_at_lt}
 use Rattle.encodings.specs.declared.forms.Encoding.{Encoding}
-use Rattle.numerals.specs.declared.signed.Signed.{Signed}
 use Rattle.encodings.specs.Widths.{allowed, fits}
 use Rattle.encodings.specs.Meaning.{meaning, legal_digits}
 use Rattle.encodings.specs.Refusals.{digit_refusal}
-use Rattle.values.specs.Values.{size_refusal}
-use Rattle.numerals.specs.CodeSigned.{integer}
 use Rattle.encodings.proofs.Meaning.{meaning-fits}
 
 -- ---- sizes
-
-pub size_passed : (fit : Bool) (size : ℕ) → size_refusal fit size ≡ Passed → fit ≡ true
-size_passed fit size e =
-    let rest = (rule_passed (ltb slice_limit size) SliceTooLong (first_among (rule (not fit) WidthNotAllowed ∷ [])) e).1 in
-    not-false fit (rule_passed (not fit) WidthNotAllowed Passed rest).0
 
 pub fits_both : (e : Encoding) (width size : ℕ) → fits e width size ≡ true → (allowed e width ≡ true) × (size ≡ bytes_for width)
 fits_both e width size h =
@@ -61,20 +50,3 @@ pub said_fits : (e : Encoding) (width : ℕ) (xs : List ℕ) (p : ℕ) (z : ℤ)
 said_fits e width xs p z fit is h =
     let heard = said_number e width p z h in
     rw heard.1 (meaning-fits e width p (fits_both e width (length xs) fit).0 (bits_lt xs width p is) heard.0)
-
--- ---- a number by its sign and its magnitude
-
-pub integer_of : (s : Signed) (v : ℤ) → s.negative ≡ lt_z v (pos 0) → s.magnitude ≡ nat_abs v → integer s ≡ v
-integer_of s (pos n) e m = rw (e, m, not_below n)
-  where
-    not_below : (n : ℕ) → ltb n 0 ≡ false
-    not_below n = le-ltb n 0 (omega arith)
-integer_of s (negsuc n) e m = rw (e, m)
-
--- ---- the answers
-
-module _ {A : Type 0} (old : A) where
-  -- of what bits say, where p is the number that they make
-  pub concluded_at : (made : ℤ → Answer A) (e : Encoding) (width p n : ℕ) (o : Outcome ℤ) → p ≡ n → o ≡ after (digit_refusal e width p) (gives (meaning e width p))
-      → concluded old made o ≡ concluded old made (after (digit_refusal e width n) (gives (meaning e width n)))
-  concluded_at made e width p n o is h = ap (concluded old made) h ∙ ap (λ (k : ℕ). concluded old made (after (digit_refusal e width k) (gives (meaning e width k)))) is

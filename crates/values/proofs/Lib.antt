@@ -1,2 +1,2 @@
--- `Cases` has the ways through the two calls.
+-- `Cases` has what a reading stands on: what bits say fits an i64.
 pub mod Cases

@@ -1,14 +1,11 @@
 -- RULES 14.1, 14.2, 14.3, 14.8, 14.9: a value read from bytes and written to them, and what is refused first.
-use Rattle.std.specs.Prelude.{ℕ, Bool, false, not, List, [], ◌∷◌, length, ltb, ℤ}
+use Rattle.std.specs.Prelude.{ℕ, Bool, false, not, List, [], ◌∷◌, length, ltb, Option, Some, None, ℤ}
 use Rattle.kinds.specs.declared.refusals.Refusal.TheVariants.{SliceTooLong, WidthNotAllowed}
-use Rattle.kinds.specs.declared.refusals.Check.{Check}
 use Rattle.kinds.specs.Slices.{slice_limit}
-use Rattle.kinds.specs.Answers.{wrote, report_of_check}
+use Rattle.kinds.specs.Answers.{Check, wrote, report_of_check}
 use Rattle.kinds.specs.Outcomes.{rule, first_among, gives, after, Answer, answer, concluded}
 use Rattle.bits.specs.Bits.{bit, bit_at, number, packed}
 use Rattle.encodings.specs.declared.forms.Encoding.{Encoding}
-use Rattle.encodings.specs.declared.forms.OptionalEncoding.{OptionalEncoding}
-use Rattle.encodings.specs.declared.forms.OptionalEncoding.TheVariants.{Known, Unknown}
 use Rattle.encodings.specs.Widths.{encoding_of, fits}
 use Rattle.encodings.specs.Meaning.{meaning}
 use Rattle.encodings.specs.Writing.{pattern_of}
@@ -34,9 +31,9 @@ value_written e width v xs =
     (after (range_refusal e width v) (gives (packed (length xs) (bit (pattern_of e width v))))))
 
 -- a code that tells no encoding is refused as a width is
-abbrev pub by_encoding : {A : Type 0} → OptionalEncoding → ℕ → A → (Encoding → Answer A) → Answer A
-by_encoding (Known e) size old call = call e
-by_encoding Unknown size old call = answer (report_of_check (size_refusal false size)) old
+abbrev pub by_encoding : {A : Type 0} → Option Encoding → ℕ → A → (Encoding → Answer A) → Answer A
+by_encoding (Some e) size old call = call e
+by_encoding None size old call = answer (report_of_check (size_refusal false size)) old
 
 unfoldable pub value_read_by_code : ℕ → ℕ → List ℕ → ℤ → Answer ℤ
 value_read_by_code code width xs old = by_encoding (encoding_of code) (length xs) old (λ e. value_read e width xs old)

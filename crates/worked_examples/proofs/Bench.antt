@@ -12,7 +12,7 @@ use Rattle.order.specs.Order.{ordered, swap_pairs}
 use Rattle.bits.specs.Bits.{bit, bit_at, number, packed}
 use Rattle.bits.specs.Moves.{extracted, injected, overlaid}
 use Rattle.masks.specs.Plain.{bit_of_mask}
-use Rattle.condensed.specs.Condensed.{front_bit, gathered, ones_of, condensed, ones_below, replacement, replaced}
+use Rattle.condensed.specs.Condensed.{front_bit, gathered, condensed, ones_below, replacement, replaced}
 use Rattle.unpack.specs.Found.{read_answer}
 use Rattle.unpack.specs.Unpacked.{unpacked}
 use Rattle.length_field.specs.Leading.{leading_count}
@@ -105,5 +105,5 @@ starred =
     ∷ []
 
 pub starred_hold : hold starred ≡ true
-unfolding starred coded_of decoded encoded read_answer bits_finding leading_finding unpacked leading_count ordered swap_pairs bit bit_at number packed extracted injected overlaid bit_of_mask front_bit gathered ones_of ones ones_in condensed ones_below replacement replaced standard_bits cleared readied spliced in_cut_out grown writing
+unfolding starred coded_of decoded encoded read_answer bits_finding leading_finding unpacked leading_count ordered swap_pairs bit bit_at number packed extracted injected overlaid bit_of_mask front_bit gathered ones ones_in condensed ones_below replacement replaced standard_bits cleared readied spliced in_cut_out grown writing
 starred_hold = refl

@@ -12,7 +12,7 @@ use Rattle.order.specs.Order.{ordered, swap_pairs}
 use Rattle.bits.specs.Bits.{bit, bit_at, number, packed}
 use Rattle.bits.specs.Moves.{extracted, overlaid}
 use Rattle.masks.specs.Plain.{bit_of_mask}
-use Rattle.condensed.specs.Condensed.{front_bit, gathered, ones_of, condensed}
+use Rattle.condensed.specs.Condensed.{front_bit, gathered, condensed}
 use Rattle.length_field.specs.Leading.{leading_count}
 use Rattle.scans.specs.MinMax.{scan}
 use Rattle.unpack.specs.Found.{read_answer}
@@ -109,5 +109,5 @@ examples =
     ∷ []
 
 all_hold : hold examples ≡ true
-unfolding examples decoded runtime_read read_answer bits_finding leading_finding min_max_finding unpacked leading_count scan ordered swap_pairs bit bit_at number packed extracted overlaid bit_of_mask front_bit gathered ones_of ones ones_in condensed
+unfolding examples decoded runtime_read read_answer bits_finding leading_finding min_max_finding unpacked leading_count scan ordered swap_pairs bit bit_at number packed extracted overlaid bit_of_mask front_bit gathered ones ones_in condensed
 all_hold = refl

@@ -12,7 +12,6 @@ const NOT_TRIED: [&str; 7] = ["dct_c", "encodings", "getters", "numerals", "repl
 /// The edits that neither can show, and why.
 const OUT_OF_REACH: [(&str, &str); 17] = [
     ("bits/set_two_bits", "nobody passes more than a bit"),
-    ("calls/decode_refuses_all", "no exported function calls it"),
     ("classes/class_of_37", "no class is stored"),
     ("classes/class_up_to_44", "no class is stored"),
     ("dct/places_on_refusal", "no fetch is stored"),
@@ -24,6 +23,7 @@ const OUT_OF_REACH: [(&str, &str); 17] = [
     ("field/payload_of_any_size", "no slice stored is as long as 43 needs"),
     ("field/record_past_its_limit", "no slice stored is as long as 43 needs"),
     ("field/store_as_long_as_a_payload", "no slice stored is as long as 43 needs"),
+    ("parts/place_left_open", "it changes a contract and no code"),
     ("table/another_record", "no fetch is stored"),
     ("table/count_not_tested", "no fetch is stored"),
     ("table/total_size_not_tested", "no fetch is stored"),

@@ -1,7 +1,6 @@
 -- `condensed::apply_condensed_mask_packing` meets its contract. The loop's invariant: the first bits of the source are ORed in.
-use Prim.Native.Nat.{◌-◌, ◌*◌, ◌≤◌}
+use Prim.Native.Nat.{◌≤◌}
 use mathlib.Core.Path.{◌≡◌}
-use lib.ListN.{length}
 use Rattle.bits.specs.Bits.{bit_at}
 use Rattle.bits.specs.Moves.{injected}
 use Rattle.condensed.specs.Condensed.{ones_below, replaced}
@@ -9,7 +8,4 @@ use Rattle.condensed.proofs.apply_condensed_mask_packing.Given as goal
 
 abbrev pub invariant-loop-mask_bit_idx : goal.invariant-loop-mask_bit_idx
 invariant-loop-mask_bit_idx l =
-    (l.mask_bit_idx ≤ 8 * length l.mask) × (l.mask_bit_idx-end ≡ 8 * length l.mask) × (length l.dst_data ≡ length l.initial.dst_data) × (l.data_bit_idx ≡ ones_below (bit_at l.mask) l.mask_bit_idx) × (l.dst_data ≡ injected l.mask_bit_idx l.bit_pos (replaced l.mask l.data) l.initial.dst_data)
-
-abbrev pub decreases-loop-mask_bit_idx : goal.decreases-loop-mask_bit_idx
-decreases-loop-mask_bit_idx l = l.mask_bit_idx-end - l.mask_bit_idx
+    (l.data_bit_idx ≤ l.mask_bit_idx) × (l.data_bit_idx ≡ ones_below (bit_at l.mask) l.mask_bit_idx) × (l.dst_data ≡ injected l.mask_bit_idx l.bit_pos (replaced l.mask l.data.bytes.now) l.initial.dst_data)

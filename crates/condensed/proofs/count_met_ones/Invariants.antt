@@ -1,12 +1,8 @@
 -- `count_met_ones` meets its contract. The loop's invariant: the ones below place i are counted.
-use Prim.Native.Nat.{◌-◌, ◌≤◌}
+use Prim.Native.Nat.{◌≤◌}
 use mathlib.Core.Path.{◌≡◌}
-use Rattle.kinds.specs.Types.{bytes_for}
 use Rattle.condensed.specs.Condensed.{front_bit, ones_below}
 use Rattle.condensed.proofs.count_met_ones.Given as goal
 
 abbrev pub invariant-loop-i : goal.invariant-loop-i
-invariant-loop-i l = (l.i ≤ l.i-end) × (l.field_bytes.0 ≡ bytes_for l.i-end) × (l.count ≤ l.i) × (l.count ≡ ones_below (front_bit l.bit_mask l.field_bytes.0) l.i)
-
-abbrev pub decreases-loop-i : goal.decreases-loop-i
-decreases-loop-i l = l.i-end - l.i
+invariant-loop-i l = (l.count ≤ l.i) × (l.count ≡ ones_below (front_bit l.bit_mask l.field_bytes.0) l.i)

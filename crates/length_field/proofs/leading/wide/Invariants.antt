@@ -1,5 +1,5 @@
 -- `length_field::wide` meets its contract. The loop's invariant: len is what the first j bytes make, and fits them.
-use Prim.Native.Nat.{◌-◌, ◌*◌, ◌^◌, ◌≤◌, ◌<◌}
+use Prim.Native.Nat.{◌*◌, ◌^◌, ◌<◌}
 use mathlib.Core.Path.{◌≡◌}
 use lib.ListN.{get_or}
 use Rattle.order.specs.Order.{ordered}
@@ -8,7 +8,4 @@ use Rattle.length_field.proofs.leading.wide.Given as goal
 
 abbrev pub invariant-loop-j : goal.invariant-loop-j
 invariant-loop-j l =
-    (l.j ≤ l.j-end) × (l.len < 2 ^ (8 * l.j)) × (l.len ≡ big_endian (λ i. get_or (ordered l.byte_order l.length_info_bytes) i 0) l.j)
-
-abbrev pub decreases-loop-j : goal.decreases-loop-j
-decreases-loop-j l = l.j-end - l.j
+    (l.len < 2 ^ (8 * l.j)) × (l.len ≡ big_endian (λ i. get_or (ordered l.byte_order l.length_info_bytes) i 0) l.j)

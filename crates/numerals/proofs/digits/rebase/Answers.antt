@@ -7,13 +7,10 @@ use Rattle.numerals.proofs.Rebased.{rebase_first, rebase_step, rebase_done, made
 use Rattle.numerals.proofs.digits.rebase.Goals as goal
 
 pub loop-init : goal.loop-init
-loop-init c = (omega arith, omega arith, sym (pow-zero c.args.to), rebase_first c.args.from c.args.to c.args.digits c.args.number (omega arith))
+loop-init c = grind (arith, pow-zero, rebase_first)
 
 pub overflow_mul-counts : goal.overflow_mul-counts
-overflow_mul-counts c =
-    let k = c.loop in
-    let s = c.args in
-    record { fits = rw (k.invariant.2, next_power s.to k.counter k.invariant.0) (power_fits s.to (k.counter + 1 - 1) (s.digits - 1) (omega arith) (omega arith) c.requires.digits_bound) }
+overflow_mul-counts c = grind (arith, power_fits, next_power)
 
 pub overflow_mul-made : goal.overflow_mul-made
 overflow_mul-made c =

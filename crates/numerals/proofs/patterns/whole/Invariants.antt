@@ -5,5 +5,5 @@ use lib.ListN.{length}
 use Rattle.numerals.proofs.Bytes.{front}
 use Rattle.numerals.proofs.patterns.whole.Given as goal
 
-abbrev pub invariant-loop-j : goal.invariant-loop-j
-invariant-loop-j l = (l.j ≤ length l.bytes) × (l.pattern ≡ front l.bytes l.j)
+abbrev pub invariant-loop-byte : goal.invariant-loop-byte
+invariant-loop-byte l = (l.byte-index ≤ length l.bytes) × (l.pattern ≡ front l.bytes l.byte-index)

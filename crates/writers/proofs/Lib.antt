@@ -1,0 +1,2 @@
+-- `Shown` has what a variant's packed source shows.
+pub mod Shown
