@@ -1,8 +1,8 @@
 // What the calls give, beside what they should.
 use super::fields::Field;
 
-// What a call should answer, but for the bytes.
-#[derive(Clone, Copy)]
+// What a call should answer, but for the bytes. A refusal is the number that RULES gives it, as C sees it, and no name of the library's.
+#[derive(Clone, Copy, Debug, PartialEq, Eq)]
 pub enum Want {
     Read { bits: usize, bytes: usize },
     Written,
@@ -32,7 +32,7 @@ impl Field<'_> {
         let mut report = UNWRITTEN;
         let number = dct::dct_decode(
             &self.record(),
-            self.mask,
+            self.store(),
             payload,
             self.byte_pos,
             self.bit_pos,
@@ -48,7 +48,7 @@ impl Field<'_> {
         let mut report = UNWRITTEN;
         let number = dct::dct_read(
             &self.record(),
-            self.mask,
+            self.store(),
             payload,
             self.byte_pos,
             byte_count,
@@ -60,13 +60,13 @@ impl Field<'_> {
         (number, report) == want.numbers() && lent == Some(part)
     }
 
-    // The used length after an encode, if it answers so.
+    // The used length after an encode, if it answers so. It stands beside the payload, as C has it.
     fn encoded(&self, input: &[u8], payload: &mut [u8], used: usize, want: Want) -> Option<usize> {
         let mut end = used;
         let mut report = UNWRITTEN;
         let number = dct::dct_encode(
             &self.record(),
-            self.mask,
+            self.store(),
             input,
             payload,
             &mut end,
@@ -107,7 +107,7 @@ impl Field<'_> {
         let mut report = UNWRITTEN;
         let number = dct::dct_clear(
             &self.record(),
-            self.mask,
+            self.store(),
             &mut payload,
             N,
             self.byte_pos,

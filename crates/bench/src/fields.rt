@@ -1,7 +1,10 @@
 // The fields of the cases: what the record says, a mask that is the whole store, and where the field stands.
 
+// The types, ends, variants and orders are told here once more, and not taken from the library: the bench makes its records
+// by docs/RECORDS.md alone, so that a wrong code of the library's own shows.
+
 // The types that the cases have, by their codes.
-#[derive(Clone, Copy)]
+#[derive(Clone, Copy, Debug, PartialEq, Eq)]
 pub enum DataType {
     UInt32 = 2,
     AsciiString = 4,
@@ -10,7 +13,7 @@ pub enum DataType {
 }
 
 // How a text of no fixed length ends, by the codes.
-#[derive(Clone, Copy)]
+#[derive(Clone, Copy, Debug, PartialEq, Eq)]
 pub enum Termination {
     EndOfPdu = 1,
     Zero = 2,
@@ -18,7 +21,7 @@ pub enum Termination {
 }
 
 // The variants, by their codes.
-#[derive(Clone, Copy)]
+#[derive(Clone, Copy, Debug, PartialEq, Eq)]
 enum Variant {
     LeadingLengthInfo = 1,
     MinMaxLength = 2,
@@ -26,10 +29,17 @@ enum Variant {
     ParamLengthInfo = 4,
 }
 
-#[derive(Clone, Copy)]
+#[derive(Clone, Copy, Debug, PartialEq, Eq)]
 pub enum ByteOrder {
     LowHigh = 0,
     HighLow = 1,
+}
+
+// A mask, and how it is used.
+#[derive(Clone, Copy, Debug, PartialEq, Eq)]
+enum Mask<'a> {
+    Plain(&'a [u8]),
+    Condensed(&'a [u8]),
 }
 
 // The flags that are added to the order's.
@@ -39,15 +49,15 @@ const CONDENSED: u8 = 4;
 
 const MAXIMUM: u8 = 8;
 
-#[derive(Clone, Copy)]
+#[derive(Clone, Copy, Debug, PartialEq, Eq)]
 pub struct Field<'a> {
     variant: Variant,
     data_type: DataType,
-    flags: u8,
-    termination: u8,
+    order: ByteOrder,
+    termination: Option<Termination>,
     length: u8,
-    maximum: u8,
-    pub mask: &'a [u8],
+    maximum: Option<u8>,
+    mask: Option<Mask<'a>>,
     pub byte_pos: usize,
     pub bit_pos: usize,
 }
@@ -57,11 +67,11 @@ impl<'a> Field<'a> {
         Field {
             variant,
             data_type,
-            flags: order as u8,
-            termination: 0,
+            order,
+            termination: None,
             length: 0,
-            maximum: 0,
-            mask: b"",
+            maximum: None,
+            mask: None,
             byte_pos: 0,
             bit_pos: 0,
         }
@@ -90,13 +100,11 @@ impl<'a> Field<'a> {
         minimum: u8,
         termination: Termination,
     ) -> Self {
-        let field = Field::new(Variant::MinMaxLength, data_type, order);
         Field {
-            flags: field.flags | MAXIMUM,
-            termination: termination as u8,
+            termination: Some(termination),
             length: minimum,
-            maximum: 4,
-            ..field
+            maximum: Some(4),
+            ..Field::new(Variant::MinMaxLength, data_type, order)
         }
     }
 
@@ -107,17 +115,15 @@ impl<'a> Field<'a> {
 
     pub fn masked(self, mask: &'a [u8]) -> Self {
         Field {
-            flags: self.flags | MASKED,
-            mask,
+            mask: Some(Mask::Plain(mask)),
             ..self
         }
     }
 
     pub fn condensed(self, mask: &'a [u8]) -> Self {
-        let field = self.masked(mask);
         Field {
-            flags: field.flags | CONDENSED,
-            ..field
+            mask: Some(Mask::Condensed(mask)),
+            ..self
         }
     }
 
@@ -129,16 +135,34 @@ impl<'a> Field<'a> {
         }
     }
 
+    // The store: the mask alone.
+    pub fn store(&self) -> &'a [u8] {
+        match self.mask {
+            None => b"",
+            Some(Mask::Plain(mask) | Mask::Condensed(mask)) => mask,
+        }
+    }
+
+    fn flags(&self) -> u8 {
+        let of_mask = match self.mask {
+            None => 0,
+            Some(Mask::Plain(_)) => MASKED,
+            Some(Mask::Condensed(_)) => MASKED | CONDENSED,
+        };
+        let of_maximum = if self.maximum.is_some() { MAXIMUM } else { 0 };
+        self.order as u8 | of_mask | of_maximum
+    }
+
     // The record, as docs/RECORDS.md says it.
     pub fn record(&self) -> [u8; 16] {
         let mut record = [0; 16];
         record[0] = self.data_type as u8;
-        record[1] = self.flags;
+        record[1] = self.flags();
         record[2] = self.variant as u8;
-        record[3] = self.termination;
+        record[3] = self.termination.map_or(0, |termination| termination as u8);
         record[7] = self.length;
-        record[11] = self.maximum;
-        let [.., high, low] = self.mask.len().to_be_bytes();
+        record[11] = self.maximum.unwrap_or(0);
+        let [.., high, low] = self.store().len().to_be_bytes();
         record[14] = high;
         record[15] = low;
         record

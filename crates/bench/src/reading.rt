@@ -1,4 +1,5 @@
 // The cases that read, each with all of its parts that do.
+// Refusals are the numbers of RULES, which the bench compares with what C sees.
 use super::compare::Want;
 use super::fields::{ByteOrder, DataType, Field, Termination};
 

@@ -1,12 +1,5 @@
 -- Bits of bytes: bytes are what their bits make, and equal where they agree on every bit.
-use mathlib.Core.Path.{◌≡◌, refl, sym, ap, ap₂, ◌∙◌}
-use mathlib.Core.Logic.{⊎_elim}
-use mathlib.Core.List.{List, [], ◌∷◌}
-use Prim.Native.Nat.{ℕ, zero, suc, ◌+◌, ◌-◌, ◌*◌, ◌/◌, ◌%◌, ◌≤◌, ◌<◌}
-use native.Mathlib.Omega.{arith}
-use native.Mathlib.Nat.{zero-add}
-use lib.ListN.{length, get_or, drop, replicate}
-use borrow.Author.Tests.{lt-ltb, le-ltb}
+use Rattle.std.proofs.Common.{◌≡◌, refl, sym, ap, ap₂, ◌∙◌, ⊎_elim, List, [], ◌∷◌, ℕ, zero, suc, ◌+◌, ◌-◌, ◌*◌, ◌/◌, ◌%◌, ◌≤◌, ◌<◌, arith, zero-add, length, get_or, drop, replicate, lt-ltb, le-ltb}
 use Rattle.kinds.proofs.Compare.{below}
 use Rattle.bits.specs.Bits.{bit, bit_at, number, packed}
 use Rattle.bits.proofs.Numbers.{Bits, bit-lt, bit-number, number_ext, number_lt, number_bits}

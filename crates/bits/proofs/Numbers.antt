@@ -1,11 +1,9 @@
 -- Bits of a number, and numbers made of bits.
-use mathlib.Core.Path.{◌≡◌, refl, sym, ap, ap₂, ◌∙◌}
-use mathlib.Core.Bool.{cond}
-use Prim.Native.Nat.{ℕ, zero, suc, ◌+◌, ◌-◌, ◌*◌, ◌/◌, ◌%◌, ◌^◌, ◌<◌, min, max}
-use native.Mathlib.Omega.{arith}
-use native.Mathlib.Nat.{mod-lt, zero-lt-suc, div-div-eq-div-mul, zero-add, pow-suc, mul_comm, mod-eq_of_lt, add-mul-mod_self_left}
-use lib.Dec.{eqb, eqb-zero-suc, eqb-suc-zero, eqb-suc-suc}
-use lib.Bits.{bit_or, bit_and, or_shr, and_shr, or_mod, and_mod, shifted_half, shifted_even}
+use Rattle.std.proofs.Common.{◌≡◌, refl, sym, ap, ap₂, ◌∙◌, cond, ℕ, zero, suc, ◌+◌, ◌-◌, ◌*◌, ◌/◌, ◌%◌, ◌^◌, ◌<◌, min, max, arith, mod-lt, zero-lt-suc, zero-add, pow-suc, mul_comm, mod-eq_of_lt, eqb, bit_or, bit_and}
+use Rattle.std.proofs.lemmas.Nat.{or_shr, and_shr, or_mod, and_mod}
+use native.Mathlib.Nat.{div-div-eq-div-mul, add-mul-mod_self_left}
+use lib.Dec.{eqb-zero-suc, eqb-suc-zero, eqb-suc-suc}
+use lib.Bits.{shifted_half, shifted_even}
 use Rattle.bits.specs.Bits.{bit, number}
 
 -- ---- bits of a number

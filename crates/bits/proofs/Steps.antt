@@ -1,12 +1,5 @@
 -- A loop that writes bits one after the other: nothing yet, one bit more, all.
-use mathlib.Core.Path.{◌≡◌, sym, ap, ◌∙◌}
-use mathlib.Core.Logic.{⊎_elim}
-use mathlib.Core.Bool.{Bool, true, false, cond}
-use mathlib.Core.List.{List}
-use Prim.Native.Nat.{ℕ, ◌+◌, ◌-◌, ◌*◌, ◌%◌, ◌≤◌, ◌<◌, max}
-use native.Mathlib.Omega.{arith}
-use lib.ListN.{length, replicate}
-use borrow.Author.Tests.{lt-ltb, eq-eqb, ne_eqb}
+use Rattle.std.proofs.Common.{◌≡◌, sym, ap, ◌∙◌, ⊎_elim, Bool, true, false, cond, List, ℕ, ◌+◌, ◌-◌, ◌*◌, ◌%◌, ◌≤◌, ◌<◌, max, arith, length, replicate, lt-ltb, eq-eqb, ne_eqb}
 use Rattle.kinds.proofs.Compare.{same}
 use Rattle.bits.specs.Bits.{bit_at, packed, update, or_bit}
 use Rattle.bits.specs.Moves.{first, from, raised, either, injected, within, overlaid}

@@ -1,17 +1,6 @@
 -- Stores of one byte as changes of one bit: what `bit_at` reads and `set_bit_checked` writes.
-use mathlib.Core.Path.{◌≡◌, refl, sym, ap, ap₂, ◌∙◌}
-use mathlib.Core.Logic.{⊎_elim}
-use mathlib.Core.Bool.{Bool, true, false, cond}
-use mathlib.Core.List.{List, [], ◌∷◌}
-use Prim.Native.Nat.{ℕ, zero, suc, ◌-◌, ◌*◌, ◌/◌, ◌%◌, ◌^◌, ◌<◌, min, max}
-use native.Mathlib.Omega.{arith}
-use native.Mathlib.Nat.{mod-lt, zero-lt-suc}
-use lib.ListN.{length, get_or, set, length-set}
-use lib.Seq.{get_or-set_same, get_or-set_other}
-use lib.Dec.{eqb}
-use lib.Bits.{bit_or, bit_and, or_lt, and_mask}
-use lib.Pow.{shl_exact}
-use borrow.Author.Tests.{eq-eqb, ne_eqb}
+use Rattle.std.proofs.Common.{◌≡◌, refl, sym, ap, ap₂, ◌∙◌, ⊎_elim, Bool, true, false, cond, List, [], ◌∷◌, ℕ, zero, suc, ◌-◌, ◌*◌, ◌/◌, ◌%◌, ◌^◌, ◌<◌, min, max, arith, mod-lt, zero-lt-suc, length, get_or, set, length-set, get_or-set_same, get_or-set_other, eqb, bit_or, bit_and, shl_exact, eq-eqb, ne_eqb}
+use Rattle.std.proofs.lemmas.Nat.{or_lt, and_mask}
 use Rattle.kinds.specs.declared.types.ByteOrder.{ByteOrder}
 use Rattle.order.specs.Order.{ordered}
 use Rattle.order.proofs.Index.{length-ordered}

@@ -1,4 +1,4 @@
--- `Bits` has the bits of bytes, `Moves` what is taken out of them and put into them, and `Runs` a run of them as the code has it.
+-- `Bits` has the bits of bytes, `Moves` what is taken out of them and put into them, and `CodeRuns` a run of them as the code has it.
 pub mod Bits
 pub mod Moves
-pub mod Runs
+pub mod CodeRuns

@@ -8,7 +8,7 @@ ghost use Rattle.kinds.specs.Types.{bytes_for};
 ghost use Rattle.order.specs.Order.{ordered};
 ghost use Rattle.bits.specs.Bits.{bit, bit_at, or_bit, or_bit_checked};
 ghost use Rattle.bits.specs.Moves.{extracted};
-ghost use Rattle.bits.specs.Runs.{bits_of_run, extracted_run};
+ghost use Rattle.bits.specs.CodeRuns.{bits_of_run, extracted_run};
 
 use kinds::ByteOrder;
 pub use run::Run;
@@ -31,7 +31,8 @@ pub fn bit_at(data: &[u8], i: usize) -> u8
     bit_of(data[byte], i)
 }
 
-// ORs the lowest bit of a value into a bit, which it clears first or not. Answers whether there is such a byte.
+// ORs the lowest bit of a value into a bit, which it clears first or not. Answers whether there is such a byte. Name, parameters and answer
+// are those of the Rust.
 #[tactic(auto, using(crate::proofs::Stores::set_or_bit))]
 pub fn set_bit_checked(
     result_bytes: &mut [u8],
@@ -67,7 +68,7 @@ pub fn ordered_bit_at(data: &[u8], byte_order: ByteOrder, i: usize) -> u8
     bit_of(order::ordered_byte(data, byte_order, byte), i)
 }
 
-// ORs the lowest bit of a value into bit i of the bytes, which it clears first or not.
+// ORs the lowest bit of a value into bit i of the bytes, which it clears first or not, as `set_bit_checked` is told.
 pub fn set_bit_at(data: &mut [u8], i: usize, bit_value: u8, clear_bit: bool)
     requires { i < 8 * length «data».old }
     ensures { «data».new ≡ or_bit clear_bit «data».old i bit_value }
@@ -93,7 +94,7 @@ impl<'a> Run<'a> {
     }
 }
 
-// Takes a run of bits out, right-aligned.
+// Takes a run of bits out, right-aligned. A loop over an index, as every loop over bits: bytes hold no bits that a chain could go over.
 #[tactic(auto, using(crate::proofs::Steps::first_none, crate::proofs::Steps::first_step), unfolding(crate::specs::Moves::extracted))]
 pub fn extract_bits(run: Run, result_bytes: &mut [u8])
     requires { length result_bytes.old ≡ bytes_for run.bit_len.0 }

@@ -1,8 +1,5 @@
 -- What holds of whatever a call makes of its own, holds of whatever the call gives.
-use mathlib.Core.Path.{◌≡◌, sym, ap, subst, ◌∙◌}
-use mathlib.Core.List.{List}
-use Prim.Native.Nat.{ℕ}
-use lib.ListN.{length}
+use Rattle.std.proofs.Common.{◌≡◌, sym, ap, subst, ◌∙◌, List, ℕ, length, Option, Some}
 use Rattle.kinds.specs.Outcomes.{Outcome, gives, after, following}
 use Rattle.kinds.proofs.Outcomes.{following-after}
 use Rattle.kinds.proofs.Holding.{Holds, holds_after, holds_following}
@@ -11,7 +8,6 @@ use Rattle.field.specs.Refusals.{slices_refusal, description_refusal}
 use Rattle.record.specs.Recorded.{well_formed}
 use Rattle.described.specs.Described.{described}
 use Rattle.calls.specs.Calls.{Description, coded_said, record_bytes, coded_by, called}
-use Rattle.std.specs.Prelude.{Option, Some}
 
 module _ {A : Type 0} (P : A → Type 0) (d : Description) (store : List ℕ) (a b used : ℕ) (own : DiagCodedType → Outcome A) where
   -- what holds of whatever a call makes of its own, holds of whatever the call gives

@@ -11,7 +11,8 @@ use field::Sizes;
 use kinds::{Failure, Position};
 use payload::Payload;
 
-// Takes a numeric field of a given length back to zero: its own bits, and no others.
+// Takes a numeric field of a given length back to zero: its own bits, and no others. Slice and used length become a `Payload` once both
+// are measured (43, 44).
 #[tactic(auto, unfolding(crate::specs::Calls::cleared_field))]
 pub fn clear<D: Description>(
     description: D,

@@ -9,7 +9,8 @@ use described::decode_described;
 use field::Sizes;
 use kinds::{Counts, Failure, Lent, Position};
 
-// Reads a field at a byte position and a bit position into the output.
+// Reads a field at a byte position and a bit position into the output. The parameters are those of the Rust: they become a `Field` and a
+// `Position` once what was lent is measured.
 #[tactic(auto, unfolding(crate::specs::Calls::decoded, unpack::specs::Found::read_answer))]
 pub fn decode<D: Description>(
     description: D,

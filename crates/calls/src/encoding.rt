@@ -12,7 +12,7 @@ use kinds::{Failure, Lent, Position};
 use payload::Payload;
 
 // Writes the input as a field at a byte position and a bit position of the payload, of which `used` bytes are used. The
-// payload grows in its slice where the field ends past them.
+// payload grows in its slice where the field ends past them. Slice and used length become a `Payload` once both are measured (43, 44).
 #[tactic(auto, unfolding(crate::specs::Calls::encoded))]
 pub fn encode<D: Description>(
     description: D,

@@ -40,7 +40,7 @@ impl Class {
     }
 }
 
-// The letter of the class of a number, and 0 where no refusal has that number.
+// The letter of the class of a number, and 0 where no refusal has that number: numbers, since C has no other way to pass a refusal.
 pub fn class_of(number: u32) -> u32
     ensures { result ≡ class_letter number }
 {

@@ -19,41 +19,11 @@ pub fn decode_field(
 ) -> Result<Counts, Failure>
     ensures { answer (report_of_reading result) output.new ≡ decode_of (said_of field.entry) payload.entry.bytes.now at.byte_pos at.bit_pos output.old }
 {
-    let base_datatype = field.base_datatype;
-    let byte_order = field.byte_order;
-    base_datatype.validate_bit_pos(at.bit_pos)?;
+    field.base_datatype.validate_bit_pos(at.bit_pos)?;
     match field.shape {
-        Shape::Leading(bits) => {
-            decode_leading_len(
-                base_datatype,
-                bits,
-                payload,
-                at.byte_pos,
-                byte_order,
-                output,
-            )
-        }
-        Shape::MinMax(limits) => {
-            decode_min_max_len(
-                base_datatype,
-                limits,
-                payload,
-                at.byte_pos,
-                byte_order,
-                output,
-            )
-        }
-        Shape::Standard(bits) => {
-            decode_standard_len(
-                base_datatype,
-                bits,
-                field.mask,
-                payload,
-                at,
-                byte_order,
-                output,
-            )
-        }
+        Shape::Leading(bits) => decode_leading_len(field, bits, payload, at.byte_pos, output),
+        Shape::MinMax(limits) => decode_min_max_len(field, limits, payload, at.byte_pos, output),
+        Shape::Standard(bits) => decode_standard_len(field, bits, payload, at, output),
         Shape::Param => Err(Failure::Refused(Refusal::RuntimeLengthNeeded)),
     }
 }

@@ -1,4 +1,4 @@
-// The field layer: a field decoded, encoded and cleared. It knows no store and no record: the mask comes as its use and a slice.
+// The field layer: a field decoded, encoded and cleared. It knows no store and no record: a `Field` has its mask.
 #![tactic(auto)]
 
 mod decoding; // decoding.rt: decode

@@ -24,7 +24,7 @@ pub enum Termination {
 // A termination's code in a record.
 impl From<Termination> for u8 {
     ghost use Rattle.std.specs.Prelude.{◌≡◌};
-    ghost use Rattle.coded.specs.Codes.{termination_code};
+    ghost use Rattle.coded.specs.RecordCodes.{termination_code};
 
     ghost from_gives = { λ termination code. code ≡ termination_code termination };
 
@@ -37,8 +37,8 @@ impl TryFrom<u8> for Termination {
     type Error = UnknownCode;
 
     ghost use Rattle.std.specs.Prelude.{◌≡◌, ok_or};
-    ghost use Rattle.kinds.specs.Codes.{unknown_code};
-    ghost use Rattle.coded.specs.Codes.{termination_of};
+    ghost use Rattle.kinds.specs.CodeUnknown.{unknown_code};
+    ghost use Rattle.coded.specs.RecordCodes.{termination_of};
 
     ghost try_from_gives = { λ code known. known ≡ ok_or (termination_of code) unknown_code };
 
@@ -63,6 +63,7 @@ pub struct MinMaxLengthType {
 pub struct StandardLengthType {
     pub bit_length: BitLength,
     pub bit_mask: Option<Place>,
+    // Beside the mask, since a description may say it and have none (RULES 2.6).
     pub condensed: bool,
 }
 
@@ -72,6 +73,23 @@ pub enum DiagCodedTypeVariant {
     MinMaxLength(MinMaxLengthType),
     StandardLength(StandardLengthType),
     ParamLengthInfo(Place),
+}
+
+// A variant's code in a record.
+impl From<DiagCodedTypeVariant> for u8 {
+    ghost use Rattle.std.specs.Prelude.{◌≡◌};
+    ghost use Rattle.coded.specs.RecordCodes.{variant_code};
+
+    ghost from_gives = { λ variant code. code ≡ variant_code variant };
+
+    fn from(variant: DiagCodedTypeVariant) -> u8 {
+        match variant {
+            DiagCodedTypeVariant::LeadingLengthInfo(_) => 1,
+            DiagCodedTypeVariant::MinMaxLength(_) => 2,
+            DiagCodedTypeVariant::StandardLength(_) => 3,
+            DiagCodedTypeVariant::ParamLengthInfo(_) => 4,
+        }
+    }
 }
 
 impl MinMaxLengthType {

@@ -1,14 +1,6 @@
 -- Bits gathered through a condensed mask: none yet, one more, and how many.
-use mathlib.Core.Path.{◌≡◌, refl, sym, ap}
-use mathlib.Core.Logic.{⊎_elim}
-use mathlib.Core.Bool.{Bool, true, false, cond}
-use mathlib.Core.List.{List, [], ◌∷◌, ◌++◌, append-nil}
-use Prim.Native.Nat.{ℕ, zero, suc, ◌+◌, ◌-◌, ◌/◌, ◌%◌, ◌≤◌, ◌<◌}
-use native.Mathlib.Numerals.{add-one}
-use native.Mathlib.Omega.{arith}
-use lib.ListN.{replicate, length, get_or, length-append, get_or-eq_default}
-use lib.Dec.{eqb}
-use borrow.Author.Tests.{eq-eqb, ne_eqb}
+use Rattle.std.proofs.Common.{◌≡◌, refl, sym, ap, ⊎_elim, Bool, true, false, cond, List, [], ◌∷◌, ◌++◌, append-nil, ℕ, zero, suc, ◌+◌, ◌-◌, ◌/◌, ◌%◌, ◌≤◌, ◌<◌, add-one, arith, replicate, length, get_or, length-append, eqb, eq-eqb, ne_eqb}
+use lib.ListN.{get_or-eq_default}
 use Rattle.kinds.proofs.Compare.{same}
 use Rattle.bits.specs.Bits.{bit, packed, or_bit}
 use Rattle.bits.proofs.Numbers.{Bits, bit_of_zero}

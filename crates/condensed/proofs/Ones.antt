@@ -1,14 +1,8 @@
 -- The ones of a mask, byte by byte and bit by bit.
-use mathlib.Core.Path.{◌≡◌, refl, sym, ap, ap₂, ◌∙◌}
-use mathlib.Core.Logic.{⊎_elim}
-use mathlib.Core.List.{List}
-use Prim.Native.Nat.{ℕ, zero, suc, ◌+◌, ◌/◌, ◌≤◌, ◌<◌}
-use native.Mathlib.Numerals.{add-one}
-use native.Mathlib.Omega.{arith}
-use lib.ListN.{length, get_or, drop, get_or-eq_default, drop_of_length-le}
-use lib.Seq.{drop-cons}
-use lib.Count.{ones, ones_step}
+use Rattle.std.proofs.Common.{◌≡◌, refl, sym, ap, ap₂, ◌∙◌, ⊎_elim, List, ℕ, zero, suc, ◌+◌, ◌/◌, ◌≤◌, ◌<◌, add-one, arith, length, get_or, drop, drop_of_length-le, drop-cons}
 use Rattle.std.proofs.lemmas.List.Sums.{sum_by-cons}
+use lib.ListN.{get_or-eq_default}
+use lib.Count.{ones, ones_step}
 use Rattle.kinds.proofs.Compare.{below}
 use Rattle.bits.specs.Bits.{bit}
 use Rattle.bits.proofs.Numbers.{Bits, bit-zero, bit-suc}

@@ -1,14 +1,5 @@
 -- The source of a condensed write: its bits, one after the other.
-use mathlib.Core.Path.{◌≡◌, ◌∙◌}
-use mathlib.Core.Logic.{⊎_elim}
-use mathlib.Core.Bool.{cond}
-use mathlib.Core.List.{List}
-use Prim.Native.Nat.{ℕ, ◌*◌, ◌≤◌, ◌<◌, min}
-use native.Mathlib.Omega.{arith}
-use lib.ListN.{length}
-use lib.Dec.{eqb, ltb}
-use lib.Bits.{bit_and}
-use borrow.Author.Tests.{lt-ltb, le-ltb, eq-eqb, ne_eqb}
+use Rattle.std.proofs.Common.{◌≡◌, ◌∙◌, ⊎_elim, cond, List, ℕ, ◌*◌, ◌≤◌, ◌<◌, min, arith, length, eqb, ltb, bit_and, lt-ltb, le-ltb, eq-eqb, ne_eqb}
 use Rattle.kinds.proofs.Compare.{same}
 use Rattle.bits.specs.Bits.{bit_at}
 use Rattle.bits.proofs.Numbers.{Bits, and_two}

@@ -1,7 +1,5 @@
 -- Worked examples of condensed masks, as one table that the checker computes. Letters are the bench cases of RULES 13.
-use mathlib.Core.Path.{◌≡◌, refl}
-use mathlib.Core.Bool.{true}
-use mathlib.Core.List.{List, [], ◌∷◌}
+use Rattle.std.proofs.Common.{◌≡◌, refl, true, List, [], ◌∷◌}
 use lib.Count.{ones, ones_in}
 use Rattle.kinds.proofs.Examples.{Example, hold, ◌is◌}
 use Rattle.bits.specs.Bits.{bit, bit_at, number, packed}

@@ -4,7 +4,7 @@
 ghost use Rattle.std.specs.Prelude.{◌≡◌, false, min, cond, ◌+◌, ◌*◌, ◌^◌, ◌<◌, ◌≤◌, length, eqb};
 ghost use Rattle.kinds.specs.Types.{bytes_for};
 ghost use Rattle.order.specs.Order.{ordered};
-ghost use Rattle.bits.specs.Runs.{bits_of_run};
+ghost use Rattle.bits.specs.CodeRuns.{bits_of_run};
 ghost use Rattle.bits.specs.Bits.{bit_at, packed, or_bit};
 ghost use Rattle.bits.specs.Moves.{from, injected};
 ghost use Rattle.condensed.specs.Condensed.{front_bit, ones_below, picked, bits_of, ones_of, condensed_count, condensed_bytes, replacement, replaced};
@@ -12,7 +12,7 @@ ghost use Rattle.condensed.specs.Condensed.{front_bit, ones_below, picked, bits_
 use bits::Run;
 use kinds::{BitLength, ByteCount, ByteOrder, Counts, Lent};
 
-// How many ones the mask has, all of its bytes counted, and no more than so many.
+// How many ones the mask has, all of its bytes counted, and no more than so many. A loop, since a sum could wrap: a mask has any length.
 pub fn count_mask_ones(mask: &[u8], most: BitLength) -> BitLength
     ensures { result.0 ≡ min most.0 (ones_of mask.now) }
 {
@@ -36,7 +36,7 @@ fn front_bit_at(mask: &[u8], field_bytes: ByteCount, i: usize) -> u8
     0
 }
 
-// How many ones of the mask a field of so many bits meets.
+// How many ones of the mask a field of so many bits meets. A loop over bits goes by their index.
 #[tactic(auto, using(crate::proofs::Size::bits_front, crate::proofs::Ones::ones_below_next), unfolding(crate::specs::Condensed::ones_below))]
 fn count_met_ones(bit_mask: &[u8], bit_len: BitLength) -> BitLength
     ensures { result.0 ≡ ones_below (front_bit bit_mask.now (bytes_for bit_len.0)) bit_len.0 }
@@ -87,7 +87,7 @@ fn gather_bit(result_bytes: &mut [u8], count: BitLength, mask_bit: u8, bit_value
 }
 
 // Gathers the bits of a field that a condensed mask picks, lowest first and right-aligned, as far as the result has room.
-// Answers how many the mask picks.
+// Answers how many the mask picks. A loop over bits goes by their index.
 #[tactic(auto, using(crate::proofs::Gather::many_none, crate::proofs::Gather::bytes_none, crate::proofs::Gather::many_more, crate::proofs::Gather::bytes_more, bits::proofs::Bytes::bit_at_lt))]
 pub fn gather_bits(bit_mask: &[u8], field: Run, result_bytes: &mut [u8]) -> BitLength
     ensures result_value { result.0 ≡ length (picked bit_mask.now field.entry.bit_len.0 (bits_of_run field.entry)) }
@@ -114,7 +114,8 @@ fn replacement_bit(data: Lent, data_bit_idx: usize) -> u8
     1
 }
 
-// ORs the mask into the destination from a bit position on, each one replaced in turn by a bit of the data.
+// ORs the mask into the destination from a bit position on, each one replaced in turn by a bit of the data. The bounds of the destination
+// are asked again, as those of `apply_bit_mask` in masks are.
 #[tactic(auto, using(crate::proofs::Ones::ones_below_next, bits::proofs::Bytes::bit_at_lt, crate::proofs::Replaced::bits_replaced, crate::proofs::Replaced::replaced_code, bits::proofs::Steps::injected_none, bits::proofs::Steps::injected_step), unfolding(crate::specs::Condensed::ones_below))]
 pub fn apply_condensed_mask_packing(data: Lent, mask: &[u8], bit_pos: usize, dst_data: &mut [u8])
     requires dst_data_len_bound { length dst_data.old ≤ 65535 }

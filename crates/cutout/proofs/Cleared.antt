@@ -1,10 +1,5 @@
 -- Without a mask all bits of a length are owned, and a mask of ones clears them.
-use mathlib.Core.Path.{◌≡◌, ap, ◌∙◌}
-use mathlib.Core.Bool.{cond}
-use mathlib.Core.List.{List, [], ◌∷◌}
-use Prim.Native.Nat.{ℕ, ◌-◌, ◌/◌, ◌%◌, min}
-use native.Mathlib.Omega.{arith}
-use lib.ListN.{length}
+use Rattle.std.proofs.Common.{◌≡◌, ap, ◌∙◌, cond, List, [], ◌∷◌, ℕ, ◌-◌, ◌/◌, ◌%◌, min, arith, length}
 use Rattle.bits.specs.Bits.{bit_at}
 use Rattle.bits.specs.Moves.{within, overlaid}
 use Rattle.bits.proofs.Numbers.{bit_not, bit_of_zero}

@@ -16,20 +16,20 @@ use pack::Source;
 #[tactic(auto, unfolding(crate::specs::CutOut::readied, crate::specs::CutOut::cleared))]
 fn put_bits(source: Source, bit_pos: usize, cut_out: &mut [u8])
     requires cut_out_len_bound { length cut_out.old ≤ 65535 }
-    requires bit_len_bound { bit_pos + source.packing.bit_len.0 ≤ 8 * length cut_out.old }
+    requires bit_len_bound { bit_pos + source.packed.packing.bit_len.0 ≤ 8 * length cut_out.old }
     ensures { cut_out.new ≡ put (source_of source.entry) bit_pos cut_out.old }
 {
-    let packing = source.packing;
-    let bit_len = packing.bit_len;
+    let packed = source.packed;
+    let bit_len = packed.packing.bit_len;
     match source.mask {
-        Mask::Absent => pack::inject_bits(packing, source.data, None, bit_pos, cut_out),
+        Mask::Absent => packed.inject_bits(None, bit_pos, cut_out),
         Mask::Plain(mask) => {
             masks::apply_bit_mask(cut_out, mask, Kept::UnderZeros, bit_len, bit_pos);
-            pack::inject_bits(packing, source.data, Some(mask), bit_pos, cut_out);
+            packed.inject_bits(Some(mask), bit_pos, cut_out);
         }
         Mask::Condensed(mask) => {
             masks::apply_bit_mask(cut_out, mask, Kept::UnderZeros, bit_len, bit_pos);
-            condensed::apply_condensed_mask_packing(source.data, mask, bit_pos, cut_out);
+            condensed::apply_condensed_mask_packing(packed.data, mask, bit_pos, cut_out);
         }
     }
 }
@@ -37,7 +37,7 @@ fn put_bits(source: Source, bit_pos: usize, cut_out: &mut [u8])
 // Turns a cut-out to its ordered form, puts a source into it, and turns it back.
 pub fn write_cut_out(cut_out: &mut [u8], byte_order: ByteOrder, source: Source, bit_pos: usize)
     requires cut_out_len_bound { length cut_out.old ≤ 65535 }
-    requires bit_len_bound { bit_pos + source.packing.bit_len.0 ≤ 8 * length cut_out.old }
+    requires bit_len_bound { bit_pos + source.packed.packing.bit_len.0 ≤ 8 * length cut_out.old }
     ensures { cut_out.new ≡ ordered byte_order (put (source_of source.entry) bit_pos (ordered byte_order cut_out.old)) }
 {
     order::normalize_byte_order(cut_out, byte_order);
@@ -45,7 +45,7 @@ pub fn write_cut_out(cut_out: &mut [u8], byte_order: ByteOrder, source: Source, 
     order::normalize_byte_order(cut_out, byte_order);
 }
 
-// Takes the bits that a field owns out of the ordered bytes.
+// Takes the bits that a field owns out of the ordered bytes. The bit position is at most 7, which the caller in `payload` tested.
 #[tactic(auto, using(crate::proofs::Cleared::all_cleared), unfolding(crate::specs::CutOut::cleared))]
 fn clear_bits(bit_len: BitLength, mask: Mask, bit_pos: usize, cut_out: &mut [u8])
     requires cut_out_len_bound { length cut_out.old ≤ 65535 }

@@ -1,4 +1,5 @@
 // The functions that C calls, by way of `dct_c`, and nothing else. Every byte pattern and every number gets an answer: nothing is required.
+// What they take and give is what C can pass: numbers, arrays of them, slices, and a used length beside one.
 #![tactic(auto)]
 
 ghost use Rattle.std.specs.Prelude.{◌≡◌, ◌∷◌, length};

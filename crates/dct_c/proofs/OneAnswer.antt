@@ -1,9 +1,6 @@
 -- No second answer fits the contract of a function that C calls: it says what `dct`'s says, and so `dct`'s theorems hold of it. `Learnt` is
 -- what a caller learns of the contract, which the toolchain reads from the function's clauses.
-use mathlib.Core.Path.{◌≡◌}
-use mathlib.Core.List.{List}
-use Prim.Native.Nat.{ℕ}
-use lib.IntN.{ℤ}
+use Rattle.std.proofs.Common.{◌≡◌, List, ℕ, ℤ}
 use Rattle.payload.specs.Payload.{Payload, payload_of}
 use Rattle.no_second_answer.proofs.Unique as unique
 use Rattle.dct_c.proofs.dct_decode.Reads as dct-decode

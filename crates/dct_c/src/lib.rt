@@ -1,4 +1,5 @@
 // The functions that C calls, each under the name that it has in `dct`. Every byte pattern and every number gets an answer: nothing is required.
+// They stand twice, since a crate is a library, which others call, or an archive.
 #![tactic(auto)]
 
 ghost use Rattle.std.specs.Prelude.{◌≡◌, ◌∷◌};

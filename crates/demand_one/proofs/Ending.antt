@@ -1,9 +1,6 @@
 -- A refusal of each kind, and a call's end by what holds of whatever it made.
-use mathlib.Core.Path.{refl}
-use mathlib.Core.Logic.{inl, inr}
-use Prim.Native.Nat.{ℕ}
-use native.Mathlib.Omega.{arith}
-use borrow.Author.Tests.{eqb-false}
+use Rattle.std.proofs.Common.{refl, inl, inr, ℕ, arith}
+use Rattle.std.proofs.lemmas.Bool.{eqb-false}
 use Rattle.kinds.specs.declared.refusals.Refusal.{Refusal}
 use Rattle.kinds.specs.Answers.{number_of, refused, short}
 use Rattle.kinds.specs.Outcomes.{Outcome, gives, lacks, refuses, Answer, answer, concluded}

@@ -1,15 +1,6 @@
 -- Demand 1 is proved: what specs/Refusing states.
-use mathlib.Core.Path.{◌≡◌, refl, ap, ◌∙◌}
-use mathlib.Core.Logic.{inl, inr, ⊎_elim}
-use mathlib.Core.Bool.{Bool, true, false, cond, not, ◌&&◌}
-use mathlib.Core.List.{List, [], ◌∷◌, ◌++◌}
-use Prim.Native.Nat.{ℕ, ◌+◌, ◌-◌, ◌*◌, ◌≤◌, ◌<◌, min}
-use native.Mathlib.Omega.{arith}
-use lib.ListN.{length, drop, length-append, length-take, length-drop}
+use Rattle.std.proofs.Common.{◌≡◌, refl, ap, ◌∙◌, inl, inr, ⊎_elim, Bool, true, false, cond, not, ◌&&◌, List, [], ◌∷◌, ◌++◌, ℕ, ◌+◌, ◌-◌, ◌*◌, ◌≤◌, ◌<◌, min, arith, length, drop, length-append, length-take, length-drop, eqb, ltb, ne_eqb, Option, Some, None}
 use lib.Seq.{drop-append_seam}
-use lib.Dec.{eqb, ltb}
-use borrow.Author.Tests.{ne_eqb}
-use Rattle.std.specs.Prelude.{Option, Some, None}
 use Rattle.kinds.specs.declared.types.DataType.{DataType}
 use Rattle.kinds.specs.declared.types.DataType.TheVariants.{ByteField}
 use Rattle.kinds.specs.declared.types.ByteOrder.{ByteOrder}
@@ -28,7 +19,6 @@ use Rattle.coded.specs.Refusals.{min_max_refusal, coded_type_refusal, made_refus
 use Rattle.coded.specs.Getters.{key_place_of}
 use Rattle.masks.specs.Mask.{Mask}
 use Rattle.field.specs.declared.Shape.{Shape}
-use Rattle.field.specs.declared.Shape.TheVariants as shape
 use Rattle.field.specs.Field.{field_of, outside, part_at}
 use Rattle.field.specs.Refusals.{slices_refusal, description_refusal}
 use Rattle.record.specs.Numbers.{record_size}
@@ -53,6 +43,7 @@ use Rattle.demand_one.proofs.Sizes.{size_written, size_cleared}
 use Rattle.demand_one.proofs.Ending.{refuses_row, refuses_30, ends}
 use Rattle.demand_one.proofs.Made.{makes, makes_after, said_makes, fetch_makes}
 use Rattle.demand_one.proofs.Values.{value_read_ends, value_written_ends, value_read_by_code_ends, value_written_by_code_ends}
+use Rattle.field.specs.declared.Shape.TheVariants as shape
 
 -- what every call refuses first
 holds_called : {A : Type 0} (P : A → Type 0) (d : Description) (store : List ℕ) (a b used : ℕ) (own : DiagCodedType → Outcome A)

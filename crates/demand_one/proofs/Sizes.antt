@@ -1,9 +1,6 @@
 -- A write and a clear keep the size of a payload, wherever they fall.
-use mathlib.Core.Path.{◌≡◌, refl, ◌∙◌}
-use mathlib.Core.List.{List}
-use Prim.Native.Nat.{ℕ, ◌-◌}
-use native.Mathlib.Omega.{arith}
-use lib.ListN.{length, replicate, length-append, length-take, length-drop, length-replicate}
+use Rattle.std.proofs.Common.{◌≡◌, refl, ◌∙◌, List, ℕ, ◌-◌, arith, length, replicate, length-append, length-take, length-drop}
+use Rattle.std.proofs.lemmas.List.{length-replicate}
 use Rattle.kinds.specs.declared.types.ByteOrder.{ByteOrder}
 use Rattle.order.specs.Order.{ordered}
 use Rattle.order.proofs.Index.{length-ordered}

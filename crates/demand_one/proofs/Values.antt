@@ -1,13 +1,5 @@
 -- Values: a reading and a writing end in an answer or in a refusal that leaves what came.
-use mathlib.Core.Path.{◌≡◌, refl}
-use mathlib.Core.Logic.{inl, inr, ⊎_elim}
-use mathlib.Core.Bool.{Bool, true, false, cond}
-use mathlib.Core.List.{List}
-use Prim.Native.Nat.{ℕ}
-use lib.ListN.{length}
-use lib.Dec.{ltb}
-use lib.IntN.{ℤ}
-use Rattle.std.specs.Prelude.{Option, Some, None, Err}
+use Rattle.std.proofs.Common.{◌≡◌, refl, inl, inr, ⊎_elim, Bool, true, false, cond, List, ℕ, length, ltb, ℤ, Option, Some, None, Err}
 use Rattle.kinds.specs.declared.refusals.Refusal.TheVariants.{SliceTooLong, WidthNotAllowed}
 use Rattle.kinds.specs.Answers.{wrote, report_of_check}
 use Rattle.kinds.specs.Outcomes.{gives, Answer, answer}

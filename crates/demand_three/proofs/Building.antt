@@ -1,12 +1,7 @@
 -- What is built of a list: every call gives 0, what is behind the message stays, and each bit is what its owner writes there.
-use mathlib.Core.Path.{◌≡◌, refl, sym, ap, ◌∙◌}
-use mathlib.Core.Bool.{Bool, true, false, cond}
-use mathlib.Core.List.Permᴰ
-use mathlib.Core.List.{List, [], ◌∷◌, ◌++◌, Permᴰ}
-use Prim.Native.Nat.{ℕ, ◌+◌, ◌*◌, ◌≤◌, ◌<◌, max}
-use native.Mathlib.Omega.{arith}
-use lib.ListN.{length, replicate, length-replicate}
-use lib.Seq.{take_at, drop_at}
+use Rattle.std.proofs.Common.{◌≡◌, refl, sym, ap, ◌∙◌, Bool, true, false, cond, List, [], ◌∷◌, ◌++◌, ℕ, ◌+◌, ◌*◌, ◌≤◌, ◌<◌, max, arith, length, replicate, take_at, drop_at}
+use Rattle.std.proofs.lemmas.List.{length-replicate}
+use mathlib.Core.List.{Permᴰ}
 use Rattle.kinds.specs.Answers.{wrote}
 use Rattle.kinds.specs.Outcomes.{Answer, answer}
 use Rattle.kinds.proofs.Outcomes.{both}
@@ -24,6 +19,7 @@ use Rattle.demand_three.specs.Changing.{Placed, cut_of, own, Way, blank, Succeed
 use Rattle.demand_three.proofs.Calls.{Taken, bits_of, writable}
 use Rattle.demand_three.proofs.Following.{Follows, taken_by, writes_done}
 use Rattle.demand_three.proofs.Owners.{taken, refusing, first_passes, owners, Fitting, fitting, fitting_permuted}
+use mathlib.Core.List.Permᴰ
 
 -- ---- one write, of a field that is accepted
 

@@ -1,13 +1,7 @@
 -- The field layer's calls of a field that is accepted: what write and clear leave of a message, for any value, and of what is behind it.
-use mathlib.Core.Path.{◌≡◌, refl, sym, ap, ◌∙◌}
-use mathlib.Core.Bool.{Bool, true, false, true≢false, ◌&&◌}
-use mathlib.Core.List.{List, [], ◌++◌}
-use Prim.Native.Nat.{ℕ, ◌+◌, ◌≤◌, max}
-use native.Mathlib.Omega.{arith}
-use lib.ListN.{length, length-append, length-replicate}
-use lib.Dec.{eqb, ltb}
-use borrow.Author.Tests.{ltb-false, le-ltb, not-true}
-use Rattle.std.specs.Prelude.{Ok, Err}
+use Rattle.std.proofs.Common.{◌≡◌, refl, sym, ap, ◌∙◌, Bool, true, false, true≢false, ◌&&◌, List, [], ◌++◌, ℕ, ◌+◌, ◌≤◌, max, arith, length, length-append, eqb, ltb, ltb-false, le-ltb, Ok, Err}
+use Rattle.std.proofs.lemmas.List.{length-replicate}
+use Rattle.std.proofs.lemmas.Bool.{not-true}
 use Rattle.kinds.specs.declared.refusals.Refusal.TheVariants.{BitPositionAboveSeven, PayloadLacksRoom}
 use Rattle.kinds.specs.Types.{is_numeric, is_byte_type}
 use Rattle.kinds.specs.Answers.{number_in, Check, passed, wrote}

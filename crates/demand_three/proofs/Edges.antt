@@ -1,13 +1,7 @@
 -- Demand 3 at the edges of its premises, by records: each is met here by an input that only just meets it, so that a narrower premise
 -- breaks an example.
-use mathlib.Core.Path.{◌≡◌, refl}
-use mathlib.Core.Logic.{⊎_elim}
-use mathlib.Core.Bool.{true, cond}
-use mathlib.Core.List.Permᴰ
-use mathlib.Core.List.{List, [], ◌∷◌, ◌++◌}
-use Prim.Native.Nat.{ℕ, zero, suc, ◌<◌}
-use native.Mathlib.Omega.{arith}
-use lib.ListN.{get_or, drop, replicate, length-replicate}
+use Rattle.std.proofs.Common.{◌≡◌, refl, ⊎_elim, true, cond, List, [], ◌∷◌, ◌++◌, ℕ, zero, suc, ◌<◌, arith, get_or, drop, replicate}
+use Rattle.std.proofs.lemmas.List.{length-replicate}
 use Rattle.kinds.specs.Answers.{read}
 use Rattle.kinds.specs.Outcomes.{answer}
 use Rattle.kinds.proofs.Compare.{same}
@@ -25,6 +19,7 @@ use Rattle.calls.specs.Calls.{by_record, encoded}
 use Rattle.ownership.specs.Ownership.{footprint, owns}
 use Rattle.demand_three.specs.Changing.{Exact, whole_or_short, apart_below, field_way, placed_as, coded_as, Located, record_way, message, Assignment, with, all_accepted, all_lent, apart_from, disjoint, Premises, Changed, changed}
 use Rattle.demand_three.proofs.Ways.{demand_3}
+use mathlib.Core.List.Permᴰ
 
 -- a record of StandardLength: type, flags, bit length, and place and length of its mask
 abbrev standard_record : ℕ → ℕ → ℕ → ℕ → ℕ → List ℕ

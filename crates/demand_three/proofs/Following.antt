@@ -1,10 +1,5 @@
 -- What demand 3 needs to know of a way to call: where a field is accepted, it does what the field layer does.
-use mathlib.Core.Path.{◌≡◌, ◌∙◌}
-use mathlib.Core.Bool.{true}
-use mathlib.Core.List.{List, ◌++◌}
-use Prim.Native.Nat.{ℕ, ◌+◌, ◌≤◌}
-use native.Mathlib.Omega.{arith}
-use lib.ListN.{length, length-append}
+use Rattle.std.proofs.Common.{◌≡◌, ◌∙◌, true, List, ◌++◌, ℕ, ◌+◌, ◌≤◌, arith, length, length-append}
 use Rattle.kinds.specs.Answers.{wrote}
 use Rattle.kinds.specs.Outcomes.{answer}
 use Rattle.payload.specs.Payload.{Payload, payload_of}

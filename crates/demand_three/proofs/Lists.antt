@@ -1,12 +1,7 @@
 -- Worked lists of fields, in the field layer: who owns what, what is built, what a change makes of it and what is read back,
 -- as one table that the checker computes.
-use mathlib.Core.Path.{◌≡◌, refl}
-use mathlib.Core.Bool.{Bool, true, cond}
-use mathlib.Core.List.{List, [], ◌∷◌, ◌++◌}
-use Prim.Native.Nat.{ℕ}
-use lib.ListN.{length, take, replicate}
+use Rattle.std.proofs.Common.{◌≡◌, refl, Bool, true, cond, List, [], ◌∷◌, ◌++◌, ℕ, length, take, replicate, eqb}
 use lib.Count.{ones}
-use lib.Dec.{eqb}
 use Rattle.kinds.proofs.Examples.{Example, equal, hold, ◌is◌}
 use Rattle.kinds.specs.Types.{bytes_for}
 use Rattle.kinds.specs.declared.types.DataType.{DataType}

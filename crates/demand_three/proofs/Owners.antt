@@ -1,11 +1,6 @@
 -- Lists of fields that are accepted and own no bit in common, counted: a count does not depend on the order of the list.
-use mathlib.Core.Path.{◌≡◌, refl, sym, ◌∙◌}
-use mathlib.Core.Logic.{⊎_elim}
-use mathlib.Core.Bool.{Bool, true, false, cond, not, ◌&&◌}
-use mathlib.Core.List.{List, [], ◌∷◌, Permᴰ}
-use Prim.Native.Nat.{ℕ, zero, suc, ◌+◌, ◌*◌, ◌≤◌, ◌<◌}
-use native.Mathlib.Omega.{arith}
-use lib.ListN.{length}
+use Rattle.std.proofs.Common.{◌≡◌, refl, sym, ◌∙◌, ⊎_elim, Bool, true, false, cond, not, ◌&&◌, List, [], ◌∷◌, ℕ, zero, suc, ◌+◌, ◌*◌, ◌≤◌, ◌<◌, arith, length}
+use mathlib.Core.List.{Permᴰ}
 use Rattle.kinds.proofs.Outcomes.{both}
 use Rattle.kinds.proofs.Compare.{same}
 use Rattle.ownership.proofs.Permutations.{total, total_append, total_permuted}

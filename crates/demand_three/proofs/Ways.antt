@@ -1,12 +1,6 @@
 -- Demand 3 is proved: the three ways to call follow the field layer.
-use mathlib.Core.Path.{◌≡◌, refl, sym, ap, ◌∙◌}
-use mathlib.Core.Bool.{true, true≢false}
-use mathlib.Core.List.{List, []}
-use Prim.Native.Nat.{ℕ, ◌≤◌}
-use native.Mathlib.Omega.{arith}
-use lib.ListN.{length, length-replicate}
-use lib.Dec.{ltb}
-use borrow.Author.Tests.{ltb-false, le-ltb, leb-true}
+use Rattle.std.proofs.Common.{◌≡◌, refl, sym, ap, ◌∙◌, true, true≢false, List, [], ℕ, ◌≤◌, arith, length, ltb, ltb-false, le-ltb, leb-true}
+use Rattle.std.proofs.lemmas.List.{length-replicate}
 use Rattle.kinds.specs.declared.refusals.Refusal.TheVariants.{SliceTooLong}
 use Rattle.kinds.specs.Answers.{passed}
 use Rattle.kinds.specs.Outcomes.{Outcome, gives, lacks, refuses, following, after}

@@ -1,10 +1,6 @@
 // Clear of a described field.
-ghost use Rattle.std.specs.Prelude.{◌≡◌};
-ghost use Rattle.kinds.specs.Answers.{report_of_writing};
-ghost use Rattle.kinds.specs.Outcomes.{answer};
 ghost use Rattle.field.specs.Field.{field_of};
-ghost use Rattle.payload.specs.Payload.{write_answer};
-ghost use Rattle.payload.specs.Held.{held, SameSlice};
+ghost use Rattle.payload.specs.CodeHeld.{held, Clears};
 ghost use Rattle.clear.specs.Clear.{field_clearing};
 ghost use Rattle.described.specs.Described.{described};
 
@@ -13,15 +9,14 @@ use field::Field;
 use kinds::{ByteCount, Failure, Position};
 use payload::Payload;
 
+// It begins as the other two calls do, which wrong edits keep apart.
 pub fn clear_described(
     coded_type: DiagCodedType,
     store: &[u8],
     payload: &mut Payload,
     at: Position,
 ) -> Result<(), Failure>
-    ensures same_slice { SameSlice payload.old payload.new }
-    ensures same_used { payload.new.used ≡ payload.old.used }
-    ensures result_value { answer (report_of_writing result) (held payload.new) ≡ write_answer (held payload.old) (described coded_type store.now (λ t. field_clearing (field_of t store.now) (held payload.old) at.byte_pos at.bit_pos)) }
+    ensures { Clears result payload.old payload.new (described coded_type store.now (λ t. field_clearing (field_of t store.now) (held payload.old) at.byte_pos at.bit_pos)) }
 {
     field::validate_description(coded_type, ByteCount(store.len()))?;
     codec::clear_field(Field::of(coded_type, store), payload, at)

@@ -11,6 +11,7 @@ use coded::DiagCodedType;
 use field::Field;
 use kinds::{ByteCount, Counts, Failure, Lent, Position};
 
+// It begins as the other calls do, and is one of its own, since a wrong edit is of one call alone.
 #[tactic(auto, unfolding(unpack::specs::Found::read_answer))]
 pub fn decode_described(
     coded_type: DiagCodedType,

@@ -1,5 +1,5 @@
 // What every call does after its slices: what the coded type's own description is refused for, and then its field. Here a coded type and
-// its store become a field: masks are parts of the store.
+// its store become a field: masks are parts of the store. Each call has its own function, so that a wrong edit of one is of that call alone.
 #![tactic(auto)]
 
 mod decoding; // decoding.rt: decode

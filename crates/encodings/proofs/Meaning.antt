@@ -1,16 +1,8 @@
 -- What bits say, way by way: the highest bit by a comparison, and the number that each encoding gives where it is 1.
-use mathlib.Core.Path.{◌≡◌, refl, sym, ap, ◌∙◌}
-use mathlib.Core.Logic.{⊎_elim}
-use mathlib.Core.Bool.{Bool, true, false, ◌&&◌, true≢false}
-use Prim.Native.Nat.{ℕ, zero, suc, ◌-◌, ◌*◌, ◌/◌, ◌%◌, ◌^◌, ◌≤◌, ◌<◌}
-use native.Mathlib.Omega.{arith}
+use Rattle.std.proofs.Common.{◌≡◌, refl, sym, ap, ◌∙◌, ⊎_elim, Bool, true, false, ◌&&◌, true≢false, ℕ, zero, suc, ◌-◌, ◌*◌, ◌/◌, ◌%◌, ◌^◌, ◌≤◌, ◌<◌, arith, leb, ℤ, pos, neg_ℤ, w64, SFits, lt-ltb, le-ltb, leb-true, eqb-true}
 use native.Mathlib.Nat.{div-eq_of_lt, div-eq_of_lt-le, pow-le-pow_right}
-use lib.Dec.{leb}
-use lib.IntN.{ℤ, pos, neg_ℤ, sub_ℕ}
+use lib.IntN.{sub_ℕ}
 use lib.Signed.{mag}
-use mir.Syntax.{w64}
-use mir.Val.{SFits}
-use borrow.Author.Tests.{lt-ltb, le-ltb, leb-true, eqb-true}
 use denote.Enum.Bare.{sameb}
 use Rattle.kinds.proofs.Compare.{below}
 use Rattle.kinds.proofs.Outcomes.{both}

@@ -1,20 +1,18 @@
 -- The range as comparisons of magnitudes, and the bits of a number.
-use mathlib.Core.Path.{◌≡◌, refl, sym, ap, ◌∙◌}
-use mathlib.Core.Bool.{Bool, true, false, ◌&&◌, and-true, true≢false}
-use Prim.Native.Nat.{ℕ, zero, suc, ◌+◌, ◌-◌, ◌^◌, ◌≤◌, ◌<◌}
-use native.Mathlib.Omega.{arith}
-use native.Mathlib.Nat.{one-le-pow}
-use lib.Dec.{leb, leb-suc-suc}
-use lib.IntN.{pos, negsuc, neg_ℤ}
+use Rattle.std.proofs.Common.{◌≡◌, refl, sym, ap, ◌∙◌, Bool, true, false, ◌&&◌, true≢false, ℕ, zero, suc, ◌+◌, ◌-◌, ◌/◌, ◌^◌, ◌≤◌, ◌<◌, arith, leb, pos, negsuc, neg_ℤ, le-leb, leb-true, ltb-true}
+use Rattle.std.proofs.lemmas.Bool.{lt-leb}
+use mathlib.Core.Bool.{and-true}
+use native.Mathlib.Nat.{one-le-pow, pow-le-pow_right}
+use lib.Dec.{leb-suc-suc}
 use lib.Signed.{le_z, lt_z}
-use borrow.Author.Tests.{le-leb, lt-leb, leb-true, ltb-true}
-use Rattle.numerals.specs.declared.signed.Signed.{Signed}
-use Rattle.numerals.specs.CodeSigned.{integer}
 use Rattle.encodings.specs.declared.forms.Encoding.{Encoding}
 use Rattle.encodings.specs.declared.forms.Encoding.TheVariants.{TwosComplement, OnesComplement, SignMagnitude, PackedDecimal}
 use Rattle.encodings.specs.Writing.{height, depth, in_range, pattern_of}
 use Rattle.encodings.specs.CodeSaid.{opposite_of}
-use Rattle.encodings.proofs.Meaning.{is_decimal, widths, is_packed, opposite_lt}
+use Rattle.encodings.proofs.Meaning.{is_decimal, widths, digits_of, is_packed, opposite_lt}
+use Rattle.numerals.specs.Digits.{rebased}
+use Rattle.numerals.proofs.Rebased.{digits_all, rebased-lt, power_fits}
+use Rattle.encodings.specs.Widths.{allowed}
 use Rattle.numerals.proofs.Halves.{halves, half_most}
 
 least_below : (d n : ℕ) → le_z (neg_ℤ (pos d)) (pos n) ≡ true
@@ -61,12 +59,21 @@ below_some zero e = let l = ltb-true 0 0 e in omega arith
 below_some (suc m) e = omega arith
 
 -- a number below zero has a magnitude, which the depth allows
-pub deep : (e : Encoding) (width : ℕ) (s : Signed) → in_range e width (integer s) ≡ true → s.negative ≡ lt_z (integer s) (pos 0) → s.negative ≡ true
-    → (0 < s.magnitude) × (s.magnitude ≤ depth e width)
-deep e width s range sign negative =
-    let m = s.magnitude in
-    let inside = rw negative at range in
-    let below = rw negative at sign in
-    (below_some m (sym below), leb-true m _ (sym (in_below e width m) ∙ inside))
+pub deep : (e : Encoding) (width m : ℕ) → in_range e width (neg_ℤ (pos m)) ≡ true → true ≡ lt_z (neg_ℤ (pos m)) (pos 0)
+    → (0 < m) × (m ≤ depth e width)
+deep e width m inside below = (below_some m (sym below), leb-true m _ (sym (in_below e width m) ∙ inside))
 
-pub ruleset written_laws = (widths, is_packed, opposite_lt, half_most, deep, bits_below, bits_above)
+-- in packed decimal the pattern of a number has at most 16 digits of base 16, of which the highest counts below 2^64
+module _ (e : Encoding) (width : ℕ) (s : is_decimal e ≡ true) (a : allowed e width ≡ true) where
+  pub top_fits : 16 ^ (width / 4 - 1) < 2 ^ 64
+  top_fits =
+      let d = digits_of width (rw (is_packed e s) at a) in
+      power_fits 16 (width / 4 - 1) 15 (omega arith) (omega arith) (omega arith)
+
+  pub digits_fit : (m : ℕ) → rebased 10 16 (width / 4) m < 2 ^ 64
+  digits_fit m =
+      let d = digits_of width (rw (is_packed e s) at a) in
+      let most = pow-le-pow_right {n = 16} (omega arith) {i = width / 4} {j = 16} (omega arith) in
+      omega (arith, rebased-lt 10 16 (omega arith) (width / 4) m (digits_all 10 16 (omega arith) (omega arith) (width / 4) m))
+
+pub ruleset written_laws = (top_fits, digits_fit, widths, is_packed, opposite_lt, half_most, deep, bits_below, bits_above)

@@ -19,7 +19,7 @@ impl TryFrom<u32> for Encoding {
     type Error = UnknownCode;
 
     ghost use Rattle.std.specs.Prelude.{◌≡◌, ok_or};
-    ghost use Rattle.kinds.specs.Codes.{unknown_code};
+    ghost use Rattle.kinds.specs.CodeUnknown.{unknown_code};
     ghost use Rattle.encodings.specs.Widths.{encoding_of};
 
     ghost try_from_gives = { λ code known. known ≡ ok_or (encoding_of code) unknown_code };
@@ -35,7 +35,6 @@ impl TryFrom<u32> for Encoding {
     }
 }
 
-// A width stays a parameter beside its encoding: a struct of both would hold that it is allowed, and a long slice is refused before that is known.
 impl Encoding {
     fn allows(self, width: usize) -> bool
         ensures { result ≡ allowed self width }
@@ -49,14 +48,24 @@ impl Encoding {
     {
         self.allows(width) && size == BitLength(width as u32).byte_count().bytes()
     }
+}
 
+// An encoding with a width that it allows.
+#[derive(Clone, Copy, Debug, PartialEq, Eq)]
+pub struct Form {
+    pub encoding: Encoding,
+    pub width: usize,
+    pub ghost width_value: { allowed encoding width ≡ true },
+}
+
+impl Form {
     // How far the range goes above zero.
     #[tactic(auto, using(crate::proofs::Ranges::some_tens))]
-    pub fn height(self, width: usize) -> u64
-        requires { allowed self width ≡ true }
-        ensures { result ≡ height self width }
+    pub fn height(self) -> u64
+        ensures { result ≡ height self.encoding self.width }
     {
-        match self {
+        let width = self.width;
+        match self.encoding {
             Encoding::TwosComplement | Encoding::OnesComplement | Encoding::SignMagnitude => {
                 high_bit(width) - 1
             }
@@ -65,13 +74,12 @@ impl Encoding {
     }
 
     // How far the range goes below zero.
-    pub fn depth(self, width: usize) -> u64
-        requires { allowed self width ≡ true }
-        ensures { result ≡ depth self width }
+    pub fn depth(self) -> u64
+        ensures { result ≡ depth self.encoding self.width }
     {
-        match self {
-            Encoding::TwosComplement => high_bit(width),
-            Encoding::OnesComplement | Encoding::SignMagnitude => high_bit(width) - 1,
+        match self.encoding {
+            Encoding::TwosComplement => high_bit(self.width),
+            Encoding::OnesComplement | Encoding::SignMagnitude => high_bit(self.width) - 1,
             Encoding::PackedDecimal => 0,
         }
     }

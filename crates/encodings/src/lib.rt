@@ -4,5 +4,4 @@
 mod forms; // forms.rt: the encodings, their codes, and the widths and ranges of each
 mod meanings; // meanings.rt: what bits say, and the bits that a number is written as
 
-pub use forms::Encoding;
-pub use meanings::{bits_say, in_range, pattern_of};
+pub use forms::{Encoding, Form};

@@ -1,1 +1,2 @@
+-- `Slices` has what is known of the slices of a call.
 pub mod Slices

@@ -1,8 +1,5 @@
 -- What is known of the slices of a call that is not refused for their sake.
-use mathlib.Core.Path.{◌≡◌}
-use Prim.Native.Nat.{ℕ, ◌≤◌}
-use lib.Dec.{ltb}
-use borrow.Author.Tests.{ltb-false}
+use Rattle.std.proofs.Common.{◌≡◌, ℕ, ◌≤◌, ltb, ltb-false}
 use Rattle.kinds.specs.declared.refusals.Refusal.TheVariants.{SliceTooLong, UsedPastSlice}
 use Rattle.kinds.proofs.Outcomes.{rule_passed}
 use Rattle.field.specs.Refusals.{slices_refusal}

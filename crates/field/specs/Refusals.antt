@@ -31,7 +31,7 @@ sizes_of store a b used =
       used = used;
     }
 
--- what is known of the sizes where neither is given
+-- what is known of the sizes where neither 43 nor 44 is given
 pub record Fit (sizes : Sizes) : Type 0 where
   pub store : sizes.store_len.0 ≤ 32768
   pub first : sizes.first_len.0 ≤ 65535

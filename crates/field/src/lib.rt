@@ -22,7 +22,7 @@ pub enum Shape {
 }
 
 // A coded type with its store taken apart.
-#[derive(Clone, Copy)]
+#[derive(Clone, Copy, Debug, PartialEq, Eq)]
 pub struct Field<'a> {
     pub base_datatype: DataType,
     pub byte_order: ByteOrder,

@@ -1,31 +1,44 @@
-// What a line is made of, each behind a space: numbers, a minus for what is absent, and bytes in hexadecimal digits.
-use std::io;
+// What a line is made of: what may be absent, bytes in hexadecimal digits, and what may be refused.
+use kinds::Refusal;
+use std::fmt;
 
-pub fn number(rt: &impl Print, n: u32) -> io::Result<()> {
-    print!(rt; " {n}")
-}
+// What there is, or a minus.
+#[derive(Clone, Copy, Debug, PartialEq, Eq)]
+pub struct OrMinus<T>(pub Option<T>);
 
-// The number, or a minus.
-pub fn optional(rt: &impl Print, n: Option<u32>) -> io::Result<()> {
-    match n {
-        Some(n) => number(rt, n),
-        None => absent(rt),
+impl<T: fmt::Display> fmt::Display for OrMinus<T> {
+    fn fmt<W: fmt::Write>(&self, f: &mut fmt::Formatter<W>) -> fmt::Result {
+        match self {
+            OrMinus(Some(given)) => write!(f, "{given}"),
+            OrMinus(None) => write!(f, "-"),
+        }
     }
-}
-
-pub fn absent(rt: &impl Print) -> io::Result<()> {
-    print!(rt; " -")
-}
-
-pub fn end(rt: &impl Print) -> io::Result<()> {
-    println!(rt;)
 }
 
 // In brackets, so that no bytes are told from nothing.
-pub fn bytes(rt: &impl Print, bytes: &[u8]) -> io::Result<()> {
-    print!(rt; " [")?;
-    for byte in bytes {
-        print!(rt; "{byte:02x}")?;
+#[derive(Clone, Copy, Debug, PartialEq, Eq)]
+pub struct Bytes<'a>(pub &'a [u8]);
+
+impl fmt::Display for Bytes<'_> {
+    fn fmt<W: fmt::Write>(&self, f: &mut fmt::Formatter<W>) -> fmt::Result {
+        let Bytes(bytes) = *self;
+        write!(f, "[")?;
+        for byte in bytes {
+            write!(f, "{byte:02x}")?;
+        }
+        write!(f, "]")
     }
-    print!(rt; "]")
+}
+
+// A refusal's number, or 0 and then what was given.
+#[derive(Clone, Copy, Debug, PartialEq, Eq)]
+pub struct Answer<T>(pub Result<T, Refusal>);
+
+impl<T: fmt::Display> fmt::Display for Answer<T> {
+    fn fmt<W: fmt::Write>(&self, f: &mut fmt::Formatter<W>) -> fmt::Result {
+        match self {
+            Answer(Ok(given)) => write!(f, "0 {given}"),
+            Answer(Err(refusal)) => write!(f, "{}", refusal.number()),
+        }
+    }
 }

@@ -1,73 +1,84 @@
 // The two lines of what a record says, made once more by `new` and by the `new` for high-low: a number, and where that is 0 what
 // the getters say.
-use super::columns::{absent, bytes, end, number, optional};
+use super::columns::{Answer, Bytes, OrMinus};
 use coded::{DiagCodedType, DiagCodedTypeVariant, MinMaxLengthType, Place};
 use kinds::Refusal;
-use std::io;
+use std::{fmt, io};
 
-// What `new` says of the limits, and where it makes them their getters.
-fn show_limits(rt: &impl Print, given: MinMaxLengthType) -> io::Result<()> {
-    match MinMaxLengthType::new(given.min_length(), given.max_length(), given.termination()) {
-        Err(refusal) => number(rt, refusal.number()),
-        Ok(limits) => {
-            number(rt, 0)?;
-            number(rt, limits.min_length())?;
-            optional(rt, limits.max_length())?;
-            number(rt, u32::from(u8::from(limits.termination())))
+// What the getters of limits say.
+#[derive(Clone, Copy, Debug, PartialEq, Eq)]
+struct Limits(MinMaxLengthType);
+
+impl fmt::Display for Limits {
+    fn fmt<W: fmt::Write>(&self, f: &mut fmt::Formatter<W>) -> fmt::Result {
+        let Limits(limits) = *self;
+        let most = OrMinus(limits.max_length());
+        let termination = u8::from(limits.termination());
+        write!(f, "{} {most} {termination}", limits.min_length())
+    }
+}
+
+// What a variant holds. Its limits are made once more by their `new`.
+#[derive(Clone, Copy, Debug, PartialEq, Eq)]
+struct Held<'a> {
+    variant: DiagCodedTypeVariant,
+    store: &'a [u8],
+}
+
+impl<'a> Held<'a> {
+    fn part(self, place: Option<Place>) -> OrMinus<Bytes<'a>> {
+        OrMinus(place.map(|_| Bytes(field::part_at(self.store, place))))
+    }
+}
+
+impl fmt::Display for Held<'_> {
+    fn fmt<W: fmt::Write>(&self, f: &mut fmt::Formatter<W>) -> fmt::Result {
+        match self.variant {
+            DiagCodedTypeVariant::LeadingLengthInfo(bits) => write!(f, "{}", bits.number()),
+            DiagCodedTypeVariant::MinMaxLength(limits) => {
+                let made = MinMaxLengthType::new(
+                    limits.min_length(),
+                    limits.max_length(),
+                    limits.termination(),
+                );
+                write!(f, "{}", Answer(made.map(Limits)))
+            }
+            DiagCodedTypeVariant::StandardLength(standard) => {
+                let bits = standard.bit_length.number();
+                let condensed = u8::from(standard.condensed);
+                let mask = self.part(standard.bit_mask);
+                write!(f, "{bits} {condensed} {mask}")
+            }
+            DiagCodedTypeVariant::ParamLengthInfo(name) => write!(f, "{}", self.part(Some(name))),
         }
     }
 }
 
-fn show_part(rt: &impl Print, store: &[u8], place: Option<Place>) -> io::Result<()> {
-    match place {
-        Some(_) => bytes(rt, field::part_at(store, place)),
-        None => absent(rt),
-    }
+// What the getters of a coded type say: the name where there is one, which `length_key_place` tells.
+#[derive(Clone, Copy, Debug, PartialEq, Eq)]
+struct Getters<'a> {
+    coded_type: DiagCodedType,
+    store: &'a [u8],
 }
 
-// The variant's code, and what it holds.
-fn show_type(rt: &impl Print, type_: DiagCodedTypeVariant, store: &[u8]) -> io::Result<()> {
-    match type_ {
-        DiagCodedTypeVariant::LeadingLengthInfo(bits) => {
-            number(rt, 1)?;
-            number(rt, bits.number())
-        }
-        DiagCodedTypeVariant::MinMaxLength(limits) => {
-            number(rt, 2)?;
-            show_limits(rt, limits)
-        }
-        DiagCodedTypeVariant::StandardLength(standard) => {
-            number(rt, 3)?;
-            number(rt, standard.bit_length.number())?;
-            number(rt, u32::from(standard.condensed))?;
-            show_part(rt, store, standard.bit_mask)
-        }
-        DiagCodedTypeVariant::ParamLengthInfo(name) => {
-            number(rt, 4)?;
-            show_part(rt, store, Some(name))
-        }
+impl fmt::Display for Getters<'_> {
+    fn fmt<W: fmt::Write>(&self, f: &mut fmt::Formatter<W>) -> fmt::Result {
+        let Getters { coded_type, store } = *self;
+        let code = u8::from(coded_type.base_datatype());
+        let high_low = u8::from(coded_type.is_high_low_byte_order);
+        let bits = OrMinus(coded_type.bit_len().map(|bits| bits.number()));
+        let name = calls::length_key_name(coded_type, store);
+        let refusal = name.err().map_or(0, |refusal| refusal.number());
+        let key_place = coded_type.length_key_place();
+        let name = OrMinus(key_place.map(|_| Bytes(parts::or_empty(name.ok(), store))));
+        let variant = coded_type.type_();
+        let variant_code = u8::from(variant);
+        let held = Held { variant, store };
+        write!(
+            f,
+            "{code} {high_low} {bits} {refusal} {name} {variant_code} {held}"
+        )
     }
-}
-
-// A number, and then the name where there is one: `length_key_place` tells.
-fn show_key_name(rt: &impl Print, coded_type: DiagCodedType, store: &[u8]) -> io::Result<()> {
-    let (refusal, name): (u32, &[u8]) = match calls::length_key_name(coded_type, store) {
-        Ok(name) => (0, name),
-        Err(refusal) => (refusal.number(), &[]),
-    };
-    number(rt, refusal)?;
-    match coded_type.length_key_place() {
-        Some(_) => bytes(rt, name),
-        None => absent(rt),
-    }
-}
-
-fn show_getters(rt: &impl Print, coded_type: DiagCodedType, store: &[u8]) -> io::Result<()> {
-    number(rt, u32::from(u8::from(coded_type.base_datatype())))?;
-    number(rt, u32::from(coded_type.is_high_low_byte_order))?;
-    optional(rt, coded_type.bit_len().map(|bits| bits.number()))?;
-    show_key_name(rt, coded_type, store)?;
-    show_type(rt, coded_type.type_(), store)
 }
 
 fn show_built(
@@ -75,14 +86,8 @@ fn show_built(
     built: Result<DiagCodedType, Refusal>,
     store: &[u8],
 ) -> io::Result<()> {
-    match built {
-        Err(refusal) => number(rt, refusal.number())?,
-        Ok(coded_type) => {
-            number(rt, 0)?;
-            show_getters(rt, coded_type, store)?;
-        }
-    }
-    end(rt)
+    let said = built.map(|coded_type| Getters { coded_type, store });
+    println!(rt; " {}", Answer(said))
 }
 
 pub fn show(rt: &impl Print, said: DiagCodedType, store: &[u8]) -> io::Result<()> {

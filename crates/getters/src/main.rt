@@ -9,7 +9,7 @@ use std::io::{ErrorKind, Read};
 
 fn show(rt: &impl Print, bytes: &[u8], store: &[u8]) -> io::Result<()> {
     match record::parse(bytes) {
-        None => columns::end(rt),
+        None => println!(rt;),
         Some(coded_type) => lines::show(rt, coded_type, store),
     }
 }
@@ -25,7 +25,7 @@ fn filled<R: Read>(input: &mut R, buffer: &mut [u8]) -> io::Result<bool> {
 
 // Whether a record and its store came, and then their lines are printed.
 fn shown<R: Read>(rt: &impl Print, input: &mut R) -> io::Result<bool> {
-    let mut bytes = [0u8; 16];
+    let mut bytes = [0u8; record::RECORD_SIZE];
     let mut store = [0u8; 32];
     if !filled(input, &mut bytes)? || !filled(input, &mut store)? {
         return Ok(false);

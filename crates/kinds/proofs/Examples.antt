@@ -1,8 +1,5 @@
 -- Tables of worked examples: what definitions give beside what they should, as one test that the checker computes.
-use mathlib.Core.Bool.{Bool, true, false, ◌&&◌}
-use mathlib.Core.List.{List, [], ◌∷◌}
-use Prim.Native.Nat.{ℕ}
-use lib.Dec.{eqb}
+use Rattle.std.proofs.Common.{Bool, true, false, ◌&&◌, List, [], ◌∷◌, ℕ, eqb}
 
 pub record Example : Type 0 where
   pub gives : List ℕ

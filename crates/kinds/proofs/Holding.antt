@@ -1,8 +1,5 @@
 -- What holds of whatever an outcome gives: it goes through checks and steps.
-use mathlib.Core.Path.{◌≡◌, refl}
-use mathlib.Core.Bool.{Bool, true, false}
-use Prim.Native.Nat.{ℕ}
-use Rattle.std.specs.Prelude.{Ok, Err}
+use Rattle.std.proofs.Common.{◌≡◌, refl, Bool, true, false, ℕ, Ok, Err}
 use Rattle.kinds.specs.Answers.{Check}
 use Rattle.kinds.specs.Outcomes.{Outcome, gives, lacks, refuses, after, unless_short, following}
 

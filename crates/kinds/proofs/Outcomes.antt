@@ -1,12 +1,8 @@
 -- The laws of outcomes: which way a check sends what comes next, and what follows where a rule or a check passes.
-use mathlib.Core.Path.{◌≡◌, refl, sym, ap}
-use Prim.Native.Nat.{ℕ}
-use mathlib.Core.Bool.{Bool, true, false, cond, ◌||◌, ◌&&◌, true≢false}
+use Rattle.std.proofs.Common.{◌≡◌, refl, sym, ap, ℕ, Bool, true, false, cond, ◌||◌, ◌&&◌, true≢false, Ok, Err}
 use Rattle.kinds.specs.declared.refusals.Refusal.{Refusal}
-use Rattle.std.specs.Prelude.{Ok, Err}
 use Rattle.kinds.specs.Answers.{Check, passed}
-use native.Mathlib.Omega.{arith}
-use Rattle.kinds.specs.Outcomes.{or_else, Outcome, gives, after, unless_short, following}
+use Rattle.kinds.specs.Outcomes.{or_else, Outcome, after, unless_short, following}
 
 -- two tests of which neither holds
 pub neither : (a b : Bool) → (a || b) ≡ false → (a ≡ false) × (b ≡ false)
@@ -52,8 +48,3 @@ after_ext (Err r) o o' f = refl
 pub short_ext : {A : Type 0} (t : Bool) (e a : ℕ) (o o' : Outcome A) → (t ≡ false → o ≡ o') → unless_short t e a o ≡ unless_short t e a o'
 short_ext true e a o o' f = refl
 short_ext false e a o o' f = f refl
-
--- what was made was not refused before
-pub made_passed : {A : Type 0} (c : Check) (o : Outcome A) {a : A} → gives a ≡ after c o → c ≡ passed
-made_passed (Ok done) o e = refl
-made_passed (Err r) o e = let z : ◌≡◌ {A = ℕ} 0 1 = cc in absurd (omega arith)

@@ -1,12 +1,5 @@
 -- What a report tells: the answer that it reports.
-use mathlib.Core.Path.{◌≡◌, refl, sym, ap, ◌∙◌}
-use mathlib.Core.Bool.{false, cond, true≢false}
-use mathlib.Core.List.{List}
-use Prim.Native.Nat.{ℕ}
-use borrow.Author.Tests.{eq-eqb}
-use lib.ListN.{get_or}
-use lib.Dec.{eqb}
-use Rattle.std.specs.Prelude.{Ok, Err}
+use Rattle.std.proofs.Common.{◌≡◌, refl, sym, ap, ◌∙◌, false, cond, true≢false, List, ℕ, eq-eqb, get_or, eqb, Ok, Err}
 use Rattle.kinds.specs.declared.refusals.Failure.{Failure}
 use Rattle.kinds.specs.declared.refusals.Failure.TheVariants.{NotEnoughData, Refused}
 use Rattle.kinds.specs.declared.refusals.Counts.{Counts}

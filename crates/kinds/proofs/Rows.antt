@@ -1,13 +1,7 @@
 -- The table of refusals, row by row and without naming one: no number is 0 or 30, and a number tells its refusal.
-use mathlib.Core.Path.{◌≡◌, refl, sym, ap, ◌∙◌, subst}
-use mathlib.Core.Bool.{Bool, true, false, cond, not, ◌&&◌}
-use mathlib.Core.List.{List, [], ◌∷◌}
-use mathlib.Core.Logic.{inl, inr}
-use Prim.Native.Nat.{ℕ, suc}
+use Rattle.std.proofs.Common.{◌≡◌, refl, sym, ap, ◌∙◌, subst, Bool, true, false, cond, not, ◌&&◌, List, [], ◌∷◌, inl, inr, ℕ, suc, arith, eqb-true, eqb}
+use Rattle.std.proofs.lemmas.Bool.{not-true}
 use native.Mathlib.Nat.{suc_inj}
-use native.Mathlib.Omega.{arith}
-use borrow.Author.Tests.{eqb-true, not-true}
-use lib.Dec.{eqb}
 use denote.Struct.Field.{Field}
 use denote.Enum.Declared.{Choice}
 use Rattle.kinds.specs.declared.refusals.Refusal.{Refusal}

@@ -1,4 +1,4 @@
--- RULES 2.1, 3.4: the byte types, and what becomes of the order of bytes.
+-- RULES 2.1, 3.4, 9.2: the byte types, what becomes of the order of bytes, and the codes of data types.
 use Rattle.std.specs.Prelude.{ℕ, ◌+◌, ◌/◌, Bool, false, cond, not, ◌||◌, List, [], ◌∷◌, eqb, Option, Some, None}
 use Rattle.kinds.specs.declared.types.DataType.{DataType}
 use Rattle.kinds.specs.declared.types.DataType.TheVariants.{Int32, UInt32, Float32, AsciiString, Utf8String, Unicode2String, ByteField, Float64}

@@ -1,4 +1,5 @@
-// Data types, bit lengths, byte counts and byte order by value, with the refusals, the reports, the checks 20 to 25, limits and sums.
+// Data types, bit lengths, byte counts and byte order by value, and what a call is lent, with the refusals, the reports, the checks 20 to 25,
+// limits and sums.
 #![tactic(auto)]
 
 mod lent; // lent.rt: bytes that a call is lent to read, and where in a payload a field starts

@@ -130,7 +130,8 @@ impl Counted for () {
     }
 }
 
-// Answers the number, and leaves the rest of the report: bit count, byte count, expected and actual.
+// Answers the number, and leaves the rest of the report: bit count, byte count, expected and actual. Numbers in an array, since that is
+// what C is given.
 pub fn report<T: Counted>(answer: Result<T, Failure>, report: &mut [usize; 4]) -> u32
     ensures { result ∷ report.new ≡ report_by T.counts_of answer }
 {

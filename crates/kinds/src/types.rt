@@ -1,5 +1,5 @@
 // Data types, bit lengths and byte counts, byte order, and the checks of bit position and bit length.
-ghost use Rattle.std.specs.Prelude.{◌≡◌, [], ◌∷◌, ◌+◌, ◌*◌, ◌/◌, ◌%◌, ◌^◌, ◌<◌, ◌≤◌, min, ltb};
+ghost use Rattle.std.specs.Prelude.{◌≡◌, [], ◌∷◌, ◌+◌, ◌*◌, ◌/◌, ◌%◌, ◌^◌, ◌<◌, ◌≤◌, ltb};
 ghost use Rattle.kinds.specs.Types.{is_byte_type, is_unicode_type, byte_order_of, bytes_for};
 ghost use Rattle.kinds.specs.Outcomes.{rule, first_among};
 ghost use Rattle.kinds.specs.Slices.{saturating_sum};
@@ -25,7 +25,7 @@ pub enum DataType {
     Float64 = 8,
 }
 
-// A code that no data type has, nor whatever else a record tells by a code.
+// A code that says nothing: no data type, no termination and no encoding has it.
 #[derive(Clone, Copy, Debug, PartialEq, Eq)]
 pub struct UnknownCode;
 
@@ -46,7 +46,7 @@ impl TryFrom<u8> for DataType {
 
     ghost use Rattle.std.specs.Prelude.{◌≡◌, ok_or};
     ghost use Rattle.kinds.specs.Types.{type_of};
-    ghost use Rattle.kinds.specs.Codes.{unknown_code};
+    ghost use Rattle.kinds.specs.CodeUnknown.{unknown_code};
 
     ghost try_from_gives = { λ code known. known ≡ ok_or (type_of code) unknown_code };
 
@@ -103,13 +103,6 @@ impl BitLength {
         BitLength(self.0 + 1)
     }
 
-    // So many bits, or fewer where there are no more.
-    pub fn at_most(self, most: BitLength) -> BitLength
-        ensures { result.0 ≡ min self.0 most.0 }
-    {
-        BitLength(self.0.min(most.0))
-    }
-
     // The bits that are left of whole bytes.
     pub fn remainder(self) -> BitLength
         ensures { result.0 ≡ self.0 % 8 }
@@ -132,7 +125,7 @@ impl BitLength {
         ByteCount((bits + 7) / 8)
     }
 
-    // The bytes that hold so many bits from a bit position on.
+    // The bytes that hold so many bits from a bit position on. That it is at most 7 is asked here: a `Position` may be any.
     pub fn byte_count_from(self, bit_pos: usize) -> ByteCount
         requires { bit_pos ≤ 7 }
         ensures { result.0 ≡ bytes_for (bit_pos + self.0) }

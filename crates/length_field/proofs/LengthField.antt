@@ -1,15 +1,6 @@
 -- A length field as a number, and how many data bytes it says.
-use mathlib.Core.Path.{◌≡◌, refl, sym, ap, ◌∙◌}
-use mathlib.Core.Logic.{⊎_elim}
-use mathlib.Core.Bool.{true, true≢false}
-use mathlib.Core.List.{List}
-use Prim.Native.Nat.{ℕ, zero, suc, ◌+◌, ◌-◌, ◌*◌, ◌%◌, ◌^◌, ◌≤◌, ◌<◌}
-use native.Mathlib.Omega.{arith}
-use native.Mathlib.Numerals.{add-one}
-use native.Mathlib.Nat.{mod-eq_of_lt}
-use lib.ListN.{length, get_or}
-use lib.Pow.{pow-add, pow_mono}
-use borrow.Author.Tests.{lt-ltb, le-ltb, eq-eqb, ne_eqb}
+use Rattle.std.proofs.Common.{◌≡◌, refl, sym, ap, ◌∙◌, ⊎_elim, true, true≢false, List, [], ◌∷◌, ℕ, zero, suc, ◌+◌, ◌-◌, ◌*◌, ◌%◌, ◌^◌, ◌≤◌, ◌<◌, arith, add-one, mod-eq_of_lt, length, get_or, pow-add, pow_mono, lt-ltb, le-ltb, eq-eqb, ne_eqb, None, Some, Ok, Err}
+use Rattle.std.specs.Int.{w16, w32, from_be_bytes}
 use Rattle.kinds.specs.declared.refusals.Refusal.TheVariants.{ZeroBitLength, LengthFieldTooWide}
 use Rattle.kinds.specs.declared.types.DataType.{DataType}
 use Rattle.kinds.specs.declared.types.ByteCount.{ByteCount}
@@ -26,7 +17,6 @@ use Rattle.bits.proofs.Bytes.{Bytes, bit_at_lt, repack}
 use Rattle.bits.proofs.Runs.{bytes_ordered}
 use Rattle.length_field.specs.Leading.{big_endian, length_info}
 use Rattle.length_field.specs.CodePlace.{count_in}
-use Rattle.std.specs.Prelude.{None, Some, Ok, Err}
 use Rattle.kinds.specs.Answers.{passed}
 
 -- ---- bits and bytes of a number
@@ -75,6 +65,24 @@ byte_more n = rw (add-one n, pow_byte n) (omega arith)
 pub byte_room : (n : ℕ) → n < 8 → 2 ^ (8 * n) ≤ 2 ^ 56
 byte_room n h = pow_mono {i = 8 * n} {j = 56} (omega arith)
 
+-- ---- one to four bytes
+
+big_endian_one : (f : ℕ → ℕ) (a : ℕ) → a ≡ f 0 → a ≡ big_endian f 1
+unfolding big_endian
+big_endian_one f a x = omega arith
+
+big_endian_two : (f : ℕ → ℕ) (a b : ℕ) → a ≡ f 0 → b ≡ f 1 → from_be_bytes w16 (a ∷ b ∷ []) ≡ big_endian f 2
+unfolding big_endian
+big_endian_two f a b x y = omega arith
+
+big_endian_three : (f : ℕ → ℕ) (a b c : ℕ) → a ≡ f 0 → b ≡ f 1 → c ≡ f 2 → from_be_bytes w32 (0 ∷ a ∷ b ∷ c ∷ []) ≡ big_endian f 3
+unfolding big_endian
+big_endian_three f a b c x y z = omega arith
+
+big_endian_four : (f : ℕ → ℕ) (a b c d : ℕ) → a ≡ f 0 → b ≡ f 1 → c ≡ f 2 → d ≡ f 3 → from_be_bytes w32 (a ∷ b ∷ c ∷ d ∷ []) ≡ big_endian f 4
+unfolding big_endian
+big_endian_four f a b c d x y z v = omega arith
+
 -- ---- a run of bytes read as a length field
 
 module _ (o : ByteOrder) (xs : List ℕ) where
@@ -87,6 +95,27 @@ module _ (o : ByteOrder) (xs : List ℕ) where
   pub read_some : (n len : ℕ) → length xs ≡ n → 0 < n → n ≤ 8 → len ≡ big_endian (λ j. get_or (ordered o xs) j 0) n → Some (record { 0 = len }) ≡ length_info (ordered o xs)
   read_some n len e low high is =
       rw (length-ordered o xs, e, ne_eqb n 0 (omega arith), le-ltb 8 n high) (ap (λ (k : ℕ). Some (record { 0 = k })) is)
+
+  -- of one to four bytes each is read by itself
+  module _ (a : ℕ) (first : a ≡ get_or (ordered o xs) 0 0) where
+    pub read_one : length xs ≡ 1 → Some (record { 0 = a }) ≡ length_info (ordered o xs)
+    read_one e = read_some 1 a e (omega arith) (omega arith) (big_endian_one (λ j. get_or (ordered o xs) j 0) a first)
+
+    module _ (b : ℕ) (second : b ≡ get_or (ordered o xs) 1 0) where
+      pub read_two : length xs ≡ 2 → Some (record { 0 = from_be_bytes w16 (a ∷ b ∷ []) }) ≡ length_info (ordered o xs)
+      read_two e =
+          read_some 2 _ e (omega arith) (omega arith) (big_endian_two (λ j. get_or (ordered o xs) j 0) a b first second)
+
+      module _ (c : ℕ) (third : c ≡ get_or (ordered o xs) 2 0) where
+        pub read_three : length xs ≡ 3 → Some (record { 0 = from_be_bytes w32 (0 ∷ a ∷ b ∷ c ∷ []) }) ≡ length_info (ordered o xs)
+        read_three e =
+            read_some 3 _ e (omega arith) (omega arith)
+            (big_endian_three (λ j. get_or (ordered o xs) j 0) a b c first second third)
+
+        pub read_four : (d : ℕ) → d ≡ get_or (ordered o xs) 3 0 → length xs ≡ 4 → Some (record { 0 = from_be_bytes w32 (a ∷ b ∷ c ∷ d ∷ []) }) ≡ length_info (ordered o xs)
+        read_four d fourth e =
+            read_some 4 _ e (omega arith) (omega arith)
+            (big_endian_four (λ j. get_or (ordered o xs) j 0) a b c d first second third fourth)
 
 -- ---- how many data bytes it says
 

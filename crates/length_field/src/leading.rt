@@ -1,5 +1,5 @@
 // Data bytes behind a length field.
-ghost use Rattle.std.specs.Prelude.{◌≡◌, ◌+◌, ◌*◌, ◌≤◌, ◌<◌, ◌%◌, ◌^◌, length, get_or};
+ghost use Rattle.std.specs.Prelude.{◌≡◌, ◌≤◌, ◌<◌, ◌%◌, ◌^◌, length, get_or};
 ghost use Rattle.kinds.specs.Types.{bytes_for};
 ghost use Rattle.order.specs.Order.{ordered};
 ghost use Rattle.kinds.specs.CodePlaces.{outcome_of_search};
@@ -8,52 +8,58 @@ ghost use Rattle.length_field.specs.CodePlace.{count_in, data_place, leading_pla
 
 use kinds::{BitLength, ByteCount, ByteOrder, DataType, Failure, Lent, PosInfo, Refusal};
 
-// The byte at j of the ordered form of the length field.
-fn digit(length_info_bytes: &[u8], byte_order: ByteOrder, j: usize) -> usize
-    requires { j < length length_info_bytes.now }
-    ensures value { result ≡ get_or (ordered byte_order length_info_bytes.now) j 0 }
-    ensures upper_bound { result < 256 }
-{
-    order::ordered_byte(length_info_bytes, byte_order, j) as usize
+// The bytes of a length field, and the order in which they are read.
+#[derive(Clone, Copy, Debug, PartialEq, Eq)]
+struct LengthInfo<'a> {
+    bytes: &'a [u8],
+    byte_order: ByteOrder,
 }
 
-// The two bytes from j on, big-endian.
-fn pair(length_info_bytes: &[u8], byte_order: ByteOrder, j: usize) -> usize
-    requires { j + 1 < length length_info_bytes.now }
-    ensures value { result ≡ 256 * get_or (ordered byte_order length_info_bytes.now) j 0 + get_or (ordered byte_order length_info_bytes.now) (j + 1) 0 }
-    ensures upper_bound { result < 65536 }
-{
-    256 * digit(length_info_bytes, byte_order, j) + digit(length_info_bytes, byte_order, j + 1)
-}
-
-// All of the bytes, big-endian. A loop over the index: a byte of the ordered form is read by its index alone.
-#[tactic(auto, using(crate::proofs::LengthField::big_endian_next, crate::proofs::LengthField::byte_more, crate::proofs::LengthField::byte_room), unfolding(crate::specs::Leading::big_endian))]
-fn wide(length_info_bytes: &[u8], byte_order: ByteOrder) -> usize
-    requires { length length_info_bytes.now ≤ 8 }
-    ensures { result ≡ big_endian (λ j. get_or (ordered byte_order length_info_bytes.now) j 0) (length length_info_bytes.now) }
-{
-    let mut len = 0;
-    for j in 0..length_info_bytes.len() {
-        len = 256 * len + digit(length_info_bytes, byte_order, j);
+impl LengthInfo<'_> {
+    // The byte at j of the ordered form.
+    fn digit(self, j: usize) -> u8
+        requires { j < length self.bytes.now }
+        ensures { result ≡ get_or (ordered self.entry.byte_order self.entry.bytes.now) j 0 }
+    {
+        order::ordered_byte(self.bytes, self.byte_order, j)
     }
-    len
-}
 
-// The number in a length field of one, two, three, four, or five to eight bytes.
-#[tactic(auto, using(crate::proofs::LengthField::read_none, crate::proofs::LengthField::read_some, crate::proofs::LengthField::read_many), unfolding(crate::specs::Leading::big_endian))]
-fn usize_from_bytes(length_info_bytes: &[u8], byte_order: ByteOrder) -> Option<ByteCount>
-    ensures { result ≡ length_info (ordered byte_order length_info_bytes.now) }
-{
-    let number = match length_info_bytes.len() {
-        1 => digit(length_info_bytes, byte_order, 0),
-        2 => pair(length_info_bytes, byte_order, 0),
-        3 => 256 * pair(length_info_bytes, byte_order, 0) + digit(length_info_bytes, byte_order, 2),
-        4 => 65536 * pair(length_info_bytes, byte_order, 0)
-            + pair(length_info_bytes, byte_order, 2),
-        5..=8 => wide(length_info_bytes, byte_order),
-        _ => return None,
-    };
-    Some(ByteCount(number))
+    // All of the bytes, big-endian. A loop over the index: a byte of the ordered form is read by its index alone,
+    // and a fold's closure would not know that its sum has room for one byte more.
+    #[tactic(auto, using(crate::proofs::LengthField::big_endian_next, crate::proofs::LengthField::byte_more, crate::proofs::LengthField::byte_room), unfolding(crate::specs::Leading::big_endian))]
+    fn wide(self) -> usize
+        requires { length self.bytes.now ≤ 8 }
+        ensures { result ≡ big_endian (λ j. get_or (ordered self.entry.byte_order self.entry.bytes.now) j 0) (length self.entry.bytes.now) }
+    {
+        let mut len = 0;
+        for j in 0..self.bytes.len() {
+            len = 256 * len + usize::from(self.digit(j));
+        }
+        len
+    }
+
+    // The number in a length field of one, two, three, four, or five to eight bytes.
+    #[tactic(auto, using(crate::proofs::LengthField::read_none, crate::proofs::LengthField::read_one, crate::proofs::LengthField::read_two, crate::proofs::LengthField::read_three, crate::proofs::LengthField::read_four, crate::proofs::LengthField::read_some, crate::proofs::LengthField::read_many))]
+    fn usize_from_bytes(self) -> Option<ByteCount>
+        ensures { result ≡ length_info (ordered self.entry.byte_order self.entry.bytes.now) }
+    {
+        let number = match self.bytes.len() {
+            1 => usize::from(self.digit(0)),
+            2 => usize::from(u16::from_be_bytes([self.digit(0), self.digit(1)])),
+            3 => u32::from_be_bytes([0, self.digit(0), self.digit(1), self.digit(2)]) as usize,
+            4 => {
+                u32::from_be_bytes([
+                    self.digit(0),
+                    self.digit(1),
+                    self.digit(2),
+                    self.digit(3),
+                ]) as usize
+            }
+            5..=8 => self.wide(),
+            _ => return None,
+        };
+        Some(ByteCount(number))
+    }
 }
 
 // The lowest bits of a number.
@@ -69,6 +75,7 @@ fn lowest_bits(number: ByteCount, bit_len: BitLength) -> ByteCount
 }
 
 // How many data bytes a length field of so many bits says.
+// The slice comes by itself: of a slice in a struct the check does not say here that its items are below 256.
 #[tactic(auto, using(crate::proofs::LengthField::too_wide, crate::proofs::LengthField::counted))]
 fn data_byte_count(
     length_info_bytes: &[u8],
@@ -79,9 +86,13 @@ fn data_byte_count(
     requires length_info_bytes_len { length length_info_bytes.now ≡ bytes_for bits.0 }
     ensures { result ≡ count_in bits.0 (ordered byte_order length_info_bytes.now) }
 {
-    let number = usize_from_bytes(length_info_bytes, byte_order).ok_or(
-        Refusal::LengthFieldTooWide,
-    )?;
+    let length_info = LengthInfo {
+        bytes: length_info_bytes,
+        byte_order,
+    };
+    let number = length_info
+        .usize_from_bytes()
+        .ok_or(Refusal::LengthFieldTooWide)?;
     Ok(lowest_bits(number, bits))
 }
 

@@ -1,11 +1,6 @@
 -- Bits under a plain mask: what the code reads of it, and the bit that a loop comes to.
-use mathlib.Core.Path.{◌≡◌, ap, ◌∙◌}
-use mathlib.Core.Bool.{true}
-use mathlib.Core.List.{List}
-use Prim.Native.Nat.{ℕ, ◌+◌, ◌-◌, ◌*◌, ◌/◌, ◌%◌, ◌<◌}
-use native.Mathlib.Omega.{arith}
-use lib.ListN.{length, get_or, get_or-eq_default}
-use lib.Bits.{bit_and}
+use Rattle.std.proofs.Common.{◌≡◌, ap, ◌∙◌, true, List, ℕ, ◌+◌, ◌-◌, ◌*◌, ◌/◌, ◌%◌, ◌<◌, arith, length, get_or, bit_and}
+use lib.ListN.{get_or-eq_default}
 use Rattle.bits.specs.Bits.{bit_at, or_bit}
 use Rattle.bits.specs.Moves.{within}
 use Rattle.bits.proofs.Numbers.{Bits, bit-lt, bit_of_zero, and_two}

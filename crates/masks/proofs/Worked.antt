@@ -1,7 +1,5 @@
 -- Worked examples of bits, order and plain masks, as one table that the checker computes. Letters are the bench cases of RULES 13.
-use mathlib.Core.Path.{◌≡◌, refl}
-use mathlib.Core.Bool.{true}
-use mathlib.Core.List.{List, [], ◌∷◌}
+use Rattle.std.proofs.Common.{◌≡◌, refl, true, List, [], ◌∷◌}
 use Rattle.kinds.proofs.Examples.{Example, hold, ◌is◌}
 use Rattle.kinds.specs.declared.types.ByteOrder.TheVariants.{ReorderPairs, Reverse}
 use Rattle.order.specs.Order.{ordered, swap_pairs}

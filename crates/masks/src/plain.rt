@@ -26,7 +26,7 @@ pub fn mask_bit_at(mask: &[u8], i: usize) -> u8
     bits::bit_of(mask[0], i)
 }
 
-// Whether a bit is kept (1) or cleared (0) at a mask bit.
+// Whether a bit is kept (1) or cleared (0) at a mask bit: a bit itself, since it is put to one by `&`.
 #[tactic(auto, unfolding(crate::specs::Plain::bit_of_mask, bits::specs::Bits::bit))]
 fn keeps_at(kept: Kept, mask: &[u8], i: usize) -> u8
     ensures { result ≡ keeps kept (bit_of_mask mask.now i) }
@@ -38,7 +38,8 @@ fn keeps_at(kept: Kept, mask: &[u8], i: usize) -> u8
     }
 }
 
-// Keeps or clears bits of the data from a bit position on, by the bits of the mask from its lowest.
+// Keeps or clears bits of the data from a bit position on, by the bits of the mask from its lowest, in a loop over their index. Its bounds are asked again: in a type
+// of its own the data would have to be said to be the same slice, which is no plainer.
 #[tactic(auto, using(crate::proofs::Masked::masked_step, bits::proofs::Steps::overlaid_none, bits::proofs::Steps::overlaid_past))]
 pub fn apply_bit_mask(data: &mut [u8], mask: &[u8], kept: Kept, bit_len: BitLength, bit_pos: usize)
     requires data_len_bound { length «data».old ≤ 65535 }

@@ -1,18 +1,10 @@
 -- No second answer fits the contract of a function that users call: what an answer shows decides it. `Learnt` is what a caller learns of the
 -- contract, which the toolchain reads from the function's clauses and proves of them: of the lifetimes, of the arguments, of a result, and of
 -- the parameters at exit. So a contract that leaves something open breaks its theorem here.
-use mathlib.Core.Path.{◌≡◌, refl, sym, ap, ◌∙◌}
-use mathlib.Core.Bool.{cond, true≢false}
-use borrow.Author.Tests.{eq-eqb}
-use mathlib.Core.List.{List, ◌∷◌}
-use Prim.Native.Nat.{ℕ}
-use lib.ListN.{get_or, drop}
-use lib.Dec.{eqb}
-use lib.IntN.{ℤ}
+use Rattle.std.proofs.Common.{◌≡◌, refl, sym, ap, ◌∙◌, cond, true≢false, eq-eqb, List, ◌∷◌, ℕ, get_or, drop, eqb, ℤ, Result, Ok, Err, IfOk}
+use Rattle.std.specs.Borrow.{Bor}
 use Rattle.kinds.specs.declared.refusals.Refusal.{Refusal}
 use Rattle.kinds.specs.declared.refusals.Refusal.TheVariants.{MalformedTable}
-use Rattle.std.specs.Prelude.{Result, Ok, Err, IfOk}
-use Rattle.std.specs.Borrow.{Bor}
 use Rattle.kinds.specs.declared.refusals.Counts.{Counts}
 use Rattle.kinds.specs.Answers.{number_of, number_in, numbered, Check, Reading, Writing, no_counts, report_of_check, report_of_reading, report_of_writing}
 use Rattle.kinds.specs.Slices.{place_behind}
@@ -82,7 +74,7 @@ writing_told (Err f) = rw (failure_seen (λ (done : Unit {0}). no_counts) f) (ap
 
 -- ---- one answer for each kind
 
--- an enum, and what is left
+-- a result, and what is left
 module _ {E A : Type 0} (shows : E → List ℕ) (tells : List ℕ → E) (told : (e : E) → tells (shows e) ≡ e) where
   one_reported : {x : Answer A} (a b : E × A) → answer (shows a.0) a.1 ≡ x → answer (shows b.0) b.1 ≡ x → a ≡ b
   one_reported =

@@ -1,14 +1,8 @@
 -- Bytes as one number, and a number as bytes, one byte after the other.
-use mathlib.Core.Path.{◌≡◌, refl, sym, ap, ap₂, ◌∙◌}
-use mathlib.Core.List.{List, ◌++◌, append-nil}
-use Prim.Native.Nat.{ℕ, zero, suc, ◌+◌, ◌-◌, ◌*◌, ◌/◌, ◌%◌, ◌^◌, ◌≤◌, ◌<◌}
-use native.Mathlib.Omega.{arith}
-use native.Mathlib.Nat.{mod-one, zero-add, suc-mul, div-eq_of_lt-le}
-use native.Mathlib.Numerals.{add-one}
-use lib.ListN.{length, get_or, set, drop, drop_of_length-le}
-use lib.Seq.{take_all, paste, paste-suc}
-use lib.Bits.{bit_and, and_mask}
-use lib.Pow.{pow_pos, pow_mono, pow-add, mod-pow-add, shr-shr}
+use Rattle.std.proofs.Common.{◌≡◌, refl, sym, ap, ap₂, ◌∙◌, List, ◌++◌, append-nil, ℕ, zero, suc, ◌+◌, ◌-◌, ◌*◌, ◌/◌, ◌%◌, ◌^◌, ◌≤◌, ◌<◌, arith, zero-add, suc-mul, add-one, length, get_or, set, drop, drop_of_length-le, take_all, bit_and, pow_pos, pow_mono, pow-add, shr-shr}
+use Rattle.std.proofs.lemmas.Nat.{and_mask, mod-pow-add}
+use native.Mathlib.Nat.{mod-one, div-eq_of_lt-le}
+use lib.Seq.{paste, paste-suc}
 use Rattle.kinds.specs.Types.{bytes_for}
 use Rattle.bits.specs.Bits.{bit, bit_at, number, packed}
 use Rattle.bits.specs.Moves.{from}
@@ -106,14 +100,14 @@ pub written_none : (xs : List ℕ) (x : ℕ) → xs ≡ written xs x 0
 unfolding written
 written_none xs x = refl
 
-pub written_more : (xs ys : List ℕ) (x j m : ℕ) → j < length xs → length ys ≡ length xs → m ≡ length xs - j → ys ≡ written xs x j
-    → set ys j (bit_and (x / 2 ^ (8 * (m - 1))) 255) ≡ written xs x (j + 1)
+pub written_more : (xs ys : List ℕ) (x j m : ℕ) → j < length xs → length ys ≡ length xs → m ≡ length xs → ys ≡ written xs x j
+    → set ys j (bit_and (x / 2 ^ (8 * (m - 1 - j))) 255) ≡ written xs x (j + 1)
 unfolding written
-written_more xs ys x j m l same behind e =
+written_more xs ys x j m l same all e =
     let s = packed (length xs) (bit x) in
     let n = x / 2 ^ (8 * (length xs - 1 - j)) in
-    let place : m - 1 ≡ length xs - 1 - j = omega arith in
-    let byte : bit_and (x / 2 ^ (8 * (m - 1))) 255 ≡ get_or s j 0 = ap (λ (k : ℕ). bit_and (x / 2 ^ (8 * k)) 255) place ∙ and_mask n 8 ∙ byte_of_number (length xs) x j l in
+    let place : m - 1 - j ≡ length xs - 1 - j = omega arith in
+    let byte : bit_and (x / 2 ^ (8 * (m - 1 - j))) 255 ≡ get_or s j 0 = ap (λ (k : ℕ). bit_and (x / 2 ^ (8 * k)) 255) place ∙ and_mask n 8 ∙ byte_of_number (length xs) x j l in
     let long = length-packed (length xs) (bit x) in
     rw (e, byte, add-one j) (ap (λ (n : ℕ). set (paste xs 0 s j) n (get_or s j 0)) (sym (zero-add j)) ∙ paste-suc xs 0 s j 0 (omega arith) (omega arith))
 

@@ -1,11 +1,7 @@
 -- Digits that are taken from one base to another: how large they can get, that they can be taken back, and the loop that takes them.
-use mathlib.Core.Path.{◌≡◌, refl, sym, ◌∙◌}
-use mathlib.Core.Bool.{true, false}
-use Prim.Native.Nat.{ℕ, zero, suc, ◌+◌, ◌-◌, ◌*◌, ◌/◌, ◌%◌, ◌^◌, ◌≤◌, ◌<◌}
-use native.Mathlib.Omega.{arith}
-use native.Mathlib.Nat.{mod-lt, mod-eq_of_lt, mod-add-div, pow-le-pow_right, mul-le-mul, mul-le-mul_left, mul-suc, pow-zero, pow-suc, pow-succ', div-lt_iff_lt-mul, add-mul-mod_self_left, add-mul-div_left, div-eq_of_lt, mul_comm}
-use lib.Dec.{ltb}
-use borrow.Author.Tests.{lt-ltb, le-ltb, ltb-true}
+use Rattle.std.proofs.Common.{◌≡◌, refl, sym, true, ℕ, zero, suc, ◌+◌, ◌-◌, ◌*◌, ◌/◌, ◌%◌, ◌^◌, ◌≤◌, ◌<◌, arith, mod-lt, mul-le-mul, mul-le-mul_left, mul-suc, pow-suc, div-lt_iff_lt-mul, mul_comm, ltb, lt-ltb, ltb-true}
+use Rattle.std.proofs.lemmas.Nat.{mod-mul-add, div-mul-add}
+use native.Mathlib.Nat.{mod-add-div, pow-le-pow_right, pow-zero, pow-succ'}
 use Rattle.kinds.proofs.Outcomes.{both}
 use Rattle.numerals.specs.Digits.{rebased, digits_below}
 
@@ -37,12 +33,10 @@ module _ (b c : ℕ) (some : 0 < b) where
 -- taken there and back
 module _ (b c : ℕ) (some : 0 < b) where
   low_digit : (d r : ℕ) → d < c → (d + c * r) % c ≡ d
-  low_digit d r h = add-mul-mod_self_left d c r ∙ mod-eq_of_lt h
+  low_digit d r h = let same : d + c * r ≡ r * c + d = omega arith in rw same (mod-mul-add r c d h)
 
   other_digits : (d r : ℕ) → d < c → (d + c * r) / c ≡ r
-  other_digits d r h =
-      let none : d / c ≡ 0 = div-eq_of_lt h in
-      add-mul-div_left d r (omega arith) ∙ omega arith
+  other_digits d r h = let same : d + c * r ≡ r * c + d = omega arith in rw same (div-mul-add r c d h)
 
   pub digits_made : (n x : ℕ) → digits_below b c n x ≡ true → digits_below c b n (rebased b c n x) ≡ true
   unfolding rebased digits_below
@@ -63,40 +57,21 @@ module _ (b c : ℕ) (some : 0 < b) where
       rw (low_digit (x % b) (rebased b c n (x / b)) digit, other_digits (x % b) (rebased b c n (x / b)) digit, rebased_back n (x / b) two.1 less)
       (mod-add-div x b)
 
--- ---- loops, digit by digit
-
--- one digit more is looked at
-module _ (b c n k x : ℕ) (l : k < n) where
-  one_more : n - k ≡ suc (n - (k + 1))
-  one_more = omega arith
-
-  pub digits_step : x % b < c → digits_below b c (n - k) x ≡ digits_below b c (n - (k + 1)) (x / b)
-  unfolding digits_below
-  digits_step h = rw (one_more, lt-ltb (x % b) c h)
-
-  pub digits_wrong : c ≤ x % b → digits_below b c (n - k) x ≡ false
-  unfolding digits_below
-  digits_wrong h = rw (one_more, le-ltb (x % b) c h)
-
-pub digits_done : (b c n k x : ℕ) → k ≡ n → digits_below b c (n - k) x ≡ true
-unfolding digits_below
-digits_done b c n k x e = let none : n - k ≡ 0 = omega arith in rw none
-
-pub ruleset digit_laws = (digits_step, digits_wrong, digits_done)
+-- ---- the loop that takes digits to another base
 
 -- what is made of the first digits, and what the others make: `count` is what the last of the first counts
-module _ (b c : ℕ) where
-  abbrev pub together : ℕ → ℕ → ℕ → ℕ → ℕ
-  together made count n rest = made + count * (c * rebased b c n (rest / b))
+unfoldable pub together : (b c made count n rest : ℕ) → ℕ
+together b c made count n rest = made + count * (c * rebased b c n (rest / b))
 
-  pub rebase_first : (n x : ℕ) → 0 < n → together (x % b) 1 (n - 1) x ≡ rebased b c n x
-  unfolding rebased
+module _ (b c : ℕ) where
+  pub rebase_first : (n x : ℕ) → 0 < n → together b c (x % b) 1 (n - 1) x ≡ rebased b c n x
+  unfolding together rebased
   rebase_first zero x l = absurd (omega arith)
   rebase_first (suc n) x l = let less : suc n - 1 ≡ n = omega arith in rw less (omega arith)
 
   pub rebase_step : (made count n k rest : ℕ) → k < n
-      → together (made + rest / b % b * (count * c)) (count * c) (n - (k + 1)) (rest / b) ≡ together made count (n - k) rest
-  unfolding rebased
+      → together b c (made + rest / b % b * (count * c)) (count * c) (n - (k + 1)) (rest / b) ≡ together b c made count (n - k) rest
+  unfolding together rebased
   rebase_step made count n k rest l =
       let up : n - k ≡ suc (n - (k + 1)) = omega arith in
       let d = rest / b % b in
@@ -107,11 +82,12 @@ module _ (b c : ℕ) where
       regroup made count d r = omega arith
 
   -- what is made is no more than the whole
-  pub made-le : (made count n rest : ℕ) → made ≤ together made count n rest
-  made-le made count n rest = omega arith
+  pub made-le : (made count n k rest : ℕ) → k < n → made + rest / b % b * (count * c) ≤ together b c made count (n - k) rest
+  unfolding together
+  made-le made count n k rest l = let e = rebase_step made count n k rest l in omega arith
 
-  pub rebase_done : (made count n k rest : ℕ) → k ≡ n → together made count (n - k) rest ≡ made
-  unfolding rebased
+  pub rebase_done : (made count n k rest : ℕ) → k ≡ n → together b c made count (n - k) rest ≡ made
+  unfolding together rebased
   rebase_done made count n k rest e = let none : n - k ≡ 0 = omega arith in rw none (omega arith)
 
 -- ---- powers that fit
@@ -125,3 +101,5 @@ next_power c (suc k) l =
     let less : suc k - 1 ≡ k = omega arith in
     let same : suc k + 1 - 1 ≡ suc k = omega arith in
     rw (less, same) (sym (pow-suc c k))
+
+pub ruleset rebase_laws = (rebase_first, rebase_step, made-le, rebase_done, power_fits, pow-zero, next_power)

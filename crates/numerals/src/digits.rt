@@ -10,22 +10,16 @@ pub fn power_of_ten(digits: usize) -> u64
     10u64.pow(digits as u32)
 }
 
-// Whether the lowest digits in base 16 are digits in base 10. A loop, since a chain would have to carry the rest from digit to digit.
-#[tactic(auto, using(crate::proofs::Rebased::digit_laws))]
+// Whether the lowest digits in base 16 are digits in base 10. A u64 has 16 of them, and zeros above.
 pub fn are_decimal(digits: usize, number: u64) -> bool
     ensures { result ≡ digits_below 16 10 digits number }
 {
-    let mut rest = number;
-    for _ in 0..digits {
-        if 9 < rest % 16 {
-            return false;
-        }
-        rest /= 16;
-    }
-    true
+    (0..digits.min(16)).all(|place| (number >> (4 * place)) % 16 < 10)
 }
 
-// The lowest digits in one base, taken as digits in another. A loop, since a chain would have to carry all three numbers.
+// The lowest digits in one base, taken as digits in another. A loop, since a chain would have to carry all three
+// numbers. What it asks is of these and of no other function.
+#[tactic(auto, using(crate::proofs::Rebased::rebase_laws))]
 pub fn rebase(from: u64, to: u64, digits: usize, number: u64) -> u64
     requires from_nonzero { 0 < from }
     requires to_nonzero { 0 < to }

@@ -5,7 +5,7 @@ ghost use Rattle.bits.specs.Bits.{bit, bit_at, number, packed};
 
 use kinds::ByteCount;
 
-// What the highest of so many bits counts.
+// What the highest of so many bits counts. The width is asked for here and in `lowest`: a `Form`, which holds it, has an encoding besides.
 pub fn high_bit(width: usize) -> u64
     requires le_width { 2 ≤ width }
     requires width_bound { width ≤ 64 }
@@ -44,9 +44,8 @@ pub fn put(pattern: u64, bytes: &mut [u8])
     requires { length bytes.old ≤ 8 }
     ensures { bytes.new ≡ packed (length bytes.old) (bit pattern) }
 {
-    let mut behind = bytes.len();
-    for byte in bytes.iter_mut() {
-        behind -= 1;
-        *byte = ((pattern >> ByteCount(behind).bit_end()) & 0xff) as u8;
+    let count = bytes.len();
+    for (index, byte) in bytes.iter_mut().enumerate() {
+        *byte = ((pattern >> ByteCount(count - 1 - index).bit_end()) & 0xff) as u8;
     }
 }

@@ -1,15 +1,9 @@
 -- The index rule of the ordered form: which byte of the run stands at j.
-use mathlib.Core.Path.{◌≡◌, refl, sym, ap, ◌∙◌}
-use mathlib.Core.Logic.{⊎_elim}
-use mathlib.Core.Bool.{cond}
-use mathlib.Core.List.{List, [], ◌∷◌, reverse, reverse-cons, reverse-reverse}
-use Prim.Native.Nat.{ℕ, zero, suc, ◌+◌, ◌-◌, ◌*◌, ◌/◌, ◌%◌, ◌≤◌, ◌<◌}
-use native.Mathlib.Omega.{arith}
-use lib.ListN.{length, get_or, length-reverse, get_or-append}
-use lib.Seq.{get_or_at}
-use lib.Dec.{ltb}
-use lib.Bits.{bit_xor, differ, xor_step, xor_zero_r}
-use borrow.Author.Tests.{lt-ltb, le-ltb}
+use Rattle.std.proofs.Common.{◌≡◌, refl, sym, ap, ◌∙◌, ⊎_elim, cond, List, [], ◌∷◌, reverse, ℕ, zero, suc, ◌+◌, ◌-◌, ◌*◌, ◌/◌, ◌%◌, ◌≤◌, ◌<◌, arith, length, get_or, ltb, bit_xor, lt-ltb, le-ltb}
+use Rattle.std.proofs.lemmas.List.{reverse-reverse, length-reverse, get_or_at}
+use mathlib.Core.List.{reverse-cons}
+use lib.ListN.{get_or-append}
+use lib.Bits.{differ, xor_step, xor_zero_r}
 use Rattle.kinds.specs.declared.types.ByteOrder.{ByteOrder}
 use Rattle.kinds.specs.declared.types.ByteOrder.TheVariants.{Keep, ReorderPairs, Reverse}
 use Rattle.kinds.proofs.Compare.{below, same}

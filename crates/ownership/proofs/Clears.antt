@@ -1,11 +1,5 @@
 -- The clear law: what a clear makes of each bit of a payload.
-use mathlib.Core.Path.{◌≡◌, refl, ◌∙◌}
-use mathlib.Core.Bool.{Bool, true, false, cond}
-use mathlib.Core.List.{List}
-use Prim.Native.Nat.{ℕ, zero, suc, ◌-◌, ◌*◌, ◌<◌, min}
-use native.Mathlib.Omega.{arith}
-use lib.ListN.{length}
-use lib.Dec.{eqb}
+use Rattle.std.proofs.Common.{◌≡◌, refl, ◌∙◌, Bool, true, false, cond, List, ℕ, zero, suc, ◌-◌, ◌*◌, ◌<◌, min, arith, length, eqb}
 use Rattle.bits.specs.Bits.{bit_at}
 use Rattle.bits.specs.Moves.{within, overlaid}
 use Rattle.bits.proofs.Bytes.{Bytes, bit_at_lt}

@@ -1,10 +1,5 @@
 -- Two writes that own no bit in common go in either order.
-use mathlib.Core.Path.{◌≡◌, refl, sym, ◌∙◌}
-use mathlib.Core.Bool.{Bool, true, false, cond}
-use mathlib.Core.List.{List}
-use Prim.Native.Nat.{ℕ, ◌*◌, ◌<◌, max}
-use native.Mathlib.Omega.{arith}
-use lib.ListN.{length}
+use Rattle.std.proofs.Common.{◌≡◌, refl, sym, ◌∙◌, Bool, true, false, cond, List, ℕ, ◌*◌, ◌<◌, max, arith, length}
 use Rattle.bits.specs.Bits.{bit_at}
 use Rattle.bits.proofs.Bytes.{Bytes, ext_bits}
 use Rattle.masks.specs.Mask.{Mask}

@@ -1,10 +1,5 @@
 -- The laws of writes and clears at inputs that only just meet their premises, so that a stronger premise is refused here.
-use mathlib.Core.Path.{◌≡◌, refl, sym}
-use mathlib.Core.Bool.{true, cond, true≢false}
-use mathlib.Core.List.{List, [], ◌∷◌}
-use Prim.Native.Nat.{ℕ, zero, suc, ◌<◌}
-use native.Mathlib.Omega.{arith}
-use lib.Dec.{eqb}
+use Rattle.std.proofs.Common.{◌≡◌, refl, sym, true, cond, true≢false, List, [], ◌∷◌, ℕ, zero, suc, ◌<◌, arith, eqb}
 use Rattle.kinds.specs.declared.types.DataType.TheVariants.{UInt32}
 use Rattle.kinds.specs.declared.types.ByteOrder.TheVariants.{Keep}
 use Rattle.order.specs.Order.{ordered}

@@ -1,8 +1,6 @@
 -- RULES 7 and 8: what a write and a clear make of a payload that reaches past the cut-out, and of each bit of it. The laws
 -- speak of these; demand 3's statement does not need them.
-use Prim.Native.Nat.{ℕ, max}
-use mathlib.Core.Bool.{cond}
-use mathlib.Core.List.{List}
+use Rattle.std.proofs.Common.{ℕ, max, cond, List}
 use Rattle.bits.specs.Bits.{bit_at}
 use Rattle.bits.specs.Moves.{first, raised}
 use Rattle.masks.specs.Mask.{Mask, no_mask, plain_mask, condensed_mask}

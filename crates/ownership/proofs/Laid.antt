@@ -1,10 +1,6 @@
 -- Bits that are laid into zero bytes through a cut-out stand each at its place in the payload, the owned ones and a source's.
-use mathlib.Core.Path.{◌≡◌, refl, ◌∙◌}
-use mathlib.Core.Bool.{Bool, cond}
-use mathlib.Core.List.{List}
-use Prim.Native.Nat.{ℕ, ◌+◌, ◌-◌, ◌*◌, ◌%◌, ◌≤◌, ◌<◌}
-use native.Mathlib.Omega.{arith}
-use lib.ListN.{length, replicate, length-replicate}
+use Rattle.std.proofs.Common.{◌≡◌, refl, ◌∙◌, Bool, cond, List, ℕ, ◌+◌, ◌-◌, ◌*◌, ◌%◌, ◌≤◌, ◌<◌, arith, length, replicate}
+use Rattle.std.proofs.lemmas.List.{length-replicate}
 use Rattle.bits.specs.Bits.{bit_at, packed}
 use Rattle.bits.specs.Moves.{first, within}
 use Rattle.bits.proofs.Numbers.{Bits, bit_of_zero}

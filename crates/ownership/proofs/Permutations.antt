@@ -1,8 +1,6 @@
 -- What is added up over a list does not depend on its order.
-use mathlib.Core.Path.{◌≡◌, refl, ap, ap₂, ◌∙◌}
-use mathlib.Core.List.{List, [], ◌∷◌, ◌++◌, Permᴰ}
-use Prim.Native.Nat.{ℕ, ◌+◌}
-use native.Mathlib.Omega.{arith}
+use Rattle.std.proofs.Common.{◌≡◌, refl, ap, ap₂, ◌∙◌, List, [], ◌∷◌, ◌++◌, ℕ, ◌+◌, arith}
+use mathlib.Core.List.{Permᴰ}
 
 module _ {A : Type 0} (w : A → ℕ) where
   abbrev pub total : List A → ℕ

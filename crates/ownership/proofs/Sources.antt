@@ -1,11 +1,5 @@
 -- What a Standard field writes is bits, and zero under mask zeros.
-use mathlib.Core.Path.{◌≡◌, ◌∙◌}
-use mathlib.Core.Bool.{not, ◌&&◌}
-use mathlib.Core.List.{List}
-use Prim.Native.Nat.{ℕ, ◌*◌, ◌%◌, ◌<◌}
-use native.Mathlib.Omega.{arith}
-use lib.ListN.{length}
-use lib.Dec.{eqb, ltb, leb}
+use Rattle.std.proofs.Common.{◌≡◌, ◌∙◌, not, ◌&&◌, List, ℕ, ◌*◌, ◌%◌, ◌<◌, arith, length, eqb, ltb, leb}
 use Rattle.kinds.specs.declared.types.DataType.{DataType}
 use Rattle.kinds.specs.Types.{bytes_for}
 use Rattle.bits.specs.Bits.{bit_at}

@@ -1,12 +1,5 @@
 -- Packed data are bits, also under a mask.
-use mathlib.Core.Path.{◌≡◌}
-use mathlib.Core.Bool.{◌&&◌}
-use mathlib.Core.List.{List}
-use Prim.Native.Nat.{ℕ, ◌-◌, ◌*◌, ◌%◌}
-use native.Mathlib.Omega.{arith}
-use lib.ListN.{length}
-use lib.Dec.{ltb, leb}
-use lib.Bits.{bit_and}
+use Rattle.std.proofs.Common.{◌≡◌, ◌&&◌, List, ℕ, ◌-◌, ◌*◌, ◌%◌, arith, length, ltb, leb, bit_and}
 use Rattle.bits.proofs.Numbers.{Bits, bit-lt, and_two}
 use Rattle.bits.proofs.Bytes.{bit_at_lt}
 use Rattle.bits.proofs.Moves.{bits_cond}

@@ -1,17 +1,11 @@
 -- What the code reads by index is the source, with the same size and mask and the same bits below that size.
-use mathlib.Core.Path.{◌≡◌, refl, sym, ap, ap₂, ◌∙◌}
-use mathlib.Core.Logic.{⊎_elim}
-use mathlib.Core.Bool.{Bool, true, false, cond, not, ◌&&◌}
-use mathlib.Core.List.{List, ◌++◌, append-nil}
-use Prim.Native.Nat.{ℕ, ◌+◌, ◌-◌, ◌*◌, ◌%◌, ◌≤◌, ◌<◌, min}
-use native.Mathlib.Omega.{arith}
-use lib.ListN.{length, take, drop, replicate, length-append, length-take, length-drop, length-replicate}
-use lib.Seq.{take_all, take-length}
-use lib.Dec.{eqb, ltb, leb}
-use borrow.Author.Tests.{lt-ltb, le-ltb, lt-leb, eq-eqb, ne_eqb}
+use Rattle.std.proofs.Common.{◌≡◌, refl, sym, ap, ap₂, ◌∙◌, ⊎_elim, Bool, true, false, cond, not, ◌&&◌, List, ◌++◌, append-nil, ℕ, ◌+◌, ◌-◌, ◌*◌, ◌%◌, ◌≤◌, ◌<◌, min, arith, length, take, drop, replicate, length-append, length-take, length-drop, eqb, ltb, leb, lt-ltb, le-ltb}
+use Rattle.std.proofs.lemmas.List.{length-replicate, take_min}
+use Rattle.std.proofs.Math.Nat.{min_comm}
+use lib.Seq.{take-length}
 use Rattle.kinds.specs.declared.types.DataType.{DataType}
 use Rattle.kinds.specs.Types.{is_byte_type, bytes_for}
-use Rattle.kinds.proofs.Compare.{below, same}
+use Rattle.kinds.proofs.Compare.{below}
 use Rattle.bits.specs.Bits.{bit, bit_at, packed}
 use Rattle.bits.proofs.Numbers.{bit-lt, bit_of_zero}
 use Rattle.bits.proofs.Bytes.{bit_at_out, bit_at-packed, length-packed}
@@ -53,7 +47,7 @@ module _ (p : Packing) (xs : List ℕ) (i : ℕ) where
 
 -- no bit of the last byte is above 7
 none_above : (i : ℕ) → (ltb i 8 && leb 8 i) ≡ false
-none_above i = ⊎_elim (λ (l : i < 8). rw (lt-ltb i 8 l, lt-leb 8 i l)) (λ (l : 8 ≤ i). rw (le-ltb i 8 l)) (below i 8)
+none_above i = grind arith
 
 pub packed_whole : (p : Packing) (xs : List ℕ) (i : ℕ) → p.last_bits.0 ≡ 8 → packed_bit p xs i ≡ framed_bit p xs i
 unfolding packed_bit
@@ -86,19 +80,7 @@ terminated_alike input n x =
 
 -- how the code tells which bits of the last byte are dropped
 dropped : (r i : ℕ) → (ltb i 8 && leb (cond (eqb r 0) 8 r) i) ≡ (not (eqb r 0) && (leb r i && ltb i 8))
-dropped r i =
-    ⊎_elim (λ (e : r ≡ 0). rw (eq-eqb r 0 e) (none_above i)) (λ (e : r ≡ 0 → ⊥). rw (ne_eqb r 0 e) (swap (ltb i 8) (leb r i))) (same r 0)
-  where
-    swap : (a b : Bool) → (a && b) ≡ (b && a)
-    swap true true = refl
-    swap true false = refl
-    swap false true = refl
-    swap false false = refl
-
-take_min : (n : ℕ) (xs : List ℕ) → take (min (length xs) n) xs ≡ take n xs
-take_min n xs =
-    ⊎_elim (λ (l : n < length xs). let e : min (length xs) n ≡ n = omega arith in rw e)
-    (λ (l : length xs ≤ n). take_all (min (length xs) n) xs (omega arith) ∙ sym (take_all n xs l)) (below n (length xs))
+dropped r i = grind arith
 
 -- the input's last bytes have its lowest bits, and the zeros in front are what it has no bits for
 last_bytes_bits : (n : ℕ) (input : List ℕ) (i : ℕ) → i < 8 * n → bit_at (last_bytes n input) i ≡ bit_at input i
@@ -117,14 +99,14 @@ last_bytes_bits n input i h =
 
 -- a head of 0 has no bits
 headless : (t : Bool) (k : ℕ) → cond t (bit 0 k) 0 ≡ 0
-headless true k = bit_of_zero k
-headless false k = refl
+headless t k = grind (arith, bit_of_zero)
 
 module _ (len : ℕ) (input : List ℕ) (i : ℕ) (h : i < len) where
   framed_aligned : (byte_type : Bool) → framed_bit (aligning byte_type len (length input)) (take (aligning byte_type len (length input)).data_len.0 input) i
       ≡ bit_at (cond byte_type (first_bytes (bytes_for len) input) (last_bytes (bytes_for len) input)) i
   framed_aligned true =
-      rw (take_min (bytes_for len) input)
+      let given = ap (λ (n : ℕ). take n input) (min_comm (length input) (bytes_for len)) ∙ take_min (bytes_for len) input in
+      rw given
       (framed_low (aligning true len (length input)) (take (bytes_for len) input) i (rw length-take (omega arith)))
   framed_aligned false =
       let p = aligning false len (length input) in

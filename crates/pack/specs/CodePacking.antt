@@ -30,7 +30,7 @@ packed_source p mask xs = record { size = p.bit_len.0; bits = packed_bits_under 
 
 -- a source as the code has it
 abbrev pub source_of : code.Source → Source
-source_of s = packed_source s.packing (mask_of s.mask) s.data.bytes.now
+source_of s = packed_source s.packed.packing (mask_of s.mask) s.packed.data.bytes.now
 
 -- bytes as they are: a number's bits before them, and some equal bytes after them
 abbrev pub framing : ℕ → ℕ → ℕ → ℕ → ℕ → Packing

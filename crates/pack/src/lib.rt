@@ -1,7 +1,7 @@
 // The source of a write: bits of the input and of what stands before and after it, read by index. Nothing is copied.
 #![tactic(auto)]
 
-mod source; // source.rt: a source with its data and its mask
+mod source; // source.rt: data with how they are packed, and a source of them with its mask
 
 ghost use Rattle.std.specs.Prelude.{◌≡◌, cond, ◌+◌, ◌*◌, ◌%◌, ◌^◌, ◌<◌, ◌≤◌, length, eqb};
 ghost use Rattle.bits.specs.Moves.{injected};
@@ -11,11 +11,10 @@ ghost use Rattle.pack.specs.CodePacking.{framed_bit, packed_bit, packed_bits_und
 
 use kinds::{BitLength, ByteCount, Lent};
 use masks::Mask;
-pub use source::Source;
+pub use source::{PackedData, Source};
 
 // How data are packed: the bits of a head, the data, which are the first `data_len` bytes of the input, and some equal bytes
 // as a tail. Of all this `bit_len` bits are written, from the lowest, and of the last byte no more than `last_bits`.
-// That the tail is short is asked of the functions: packings are compared as a whole, which a ghost field would not allow.
 #[derive(Clone, Copy, Debug, PartialEq, Eq)]
 pub struct Packing {
     pub bit_len: BitLength,
@@ -26,69 +25,63 @@ pub struct Packing {
     pub last_bits: BitLength,
 }
 
-// Bit i of the head, the data and the tail.
-#[tactic(auto, using(bits::proofs::Stores::bit_code), unfolding(crate::specs::CodePacking::framed_bit))]
-fn framed_bit(packing: Packing, data: Lent, i: usize) -> u8
-    requires tail_len_bound { packing.tail_len.0 < 2 ^ 32 }
-    ensures { result ≡ framed_bit packing «data».entry.bytes.now i }
-{
-    let after = packing.tail_len.bit_end();
-    if i < after {
-        return bits::bit_of(packing.tail, i);
+impl PackedData<'_> {
+    // Bit i of the head, the data and the tail.
+    #[tactic(auto, using(bits::proofs::Stores::bit_code), unfolding(crate::specs::CodePacking::framed_bit))]
+    fn framed_bit(self, i: usize) -> u8
+        ensures { result ≡ framed_bit self.entry.packing self.entry.data.bytes.now i }
+    {
+        let after = self.packing.tail_len.bit_end();
+        if i < after {
+            return bits::bit_of(self.packing.tail, i);
+        }
+        let data = self.data.bytes;
+        let end = ByteCount(data.len()).bit_end();
+        if i - after < end {
+            return bits::bit_at(data, i - after);
+        }
+        let above = i - after - end;
+        if above < 64 {
+            return ((self.packing.head >> above) & 1) as u8;
+        }
+        0
     }
-    let end = ByteCount(data.bytes.len()).bit_end();
-    if i - after < end {
-        return bits::bit_at(data.bytes, i - after);
-    }
-    let above = i - after - end;
-    if above < 64 {
-        return ((packing.head >> above) & 1) as u8;
-    }
-    0
-}
 
-// Bit i of the packed data.
-#[tactic(auto, unfolding(crate::specs::CodePacking::packed_bit))]
-fn packed_bit(packing: Packing, data: Lent, i: usize) -> u8
-    requires tail_len_bound { packing.tail_len.0 < 2 ^ 32 }
-    ensures { result ≡ packed_bit packing «data».entry.bytes.now i }
-{
-    if i < 8 && packing.last_bits.bits() <= i {
-        return 0;
+    // Bit i of the packed data.
+    #[tactic(auto, unfolding(crate::specs::CodePacking::packed_bit))]
+    fn packed_bit(self, i: usize) -> u8
+        ensures { result ≡ packed_bit self.entry.packing self.entry.data.bytes.now i }
+    {
+        if i < 8 && self.packing.last_bits.bits() <= i {
+            return 0;
+        }
+        self.framed_bit(i)
     }
-    framed_bit(packing, data, i)
-}
 
-// Bit i of the packed data, and under a plain mask that bit or zero.
-#[tactic(auto, using(crate::proofs::Packed::under_plain))]
-fn source_bit(packing: Packing, data: Lent, mask: Option<&[u8]>, i: usize) -> u8
-    requires tail_len_bound { packing.tail_len.0 < 2 ^ 32 }
-    ensures { result ≡ packed_bits_under (plain_of mask.entry) packing «data».entry.bytes.now i }
-{
-    let bit_value = packed_bit(packing, data, i);
-    match mask {
-        Some(plain) => bit_value & masks::mask_bit_at(plain, i),
-        None => bit_value,
+    // Bit i of the packed data, and under a plain mask that bit or zero.
+    #[tactic(auto, using(crate::proofs::Packed::under_plain))]
+    fn source_bit(self, mask: Option<&[u8]>, i: usize) -> u8
+        ensures { result ≡ packed_bits_under (plain_of mask.entry) self.entry.packing self.entry.data.bytes.now i }
+    {
+        let bit_value = self.packed_bit(i);
+        match mask {
+            Some(plain) => bit_value & masks::mask_bit_at(plain, i),
+            None => bit_value,
+        }
     }
-}
 
-// ORs the packed data into the destination from a bit position on.
-#[tactic(auto, using(crate::proofs::Packed::bits_packed, bits::proofs::Steps::injected_none, bits::proofs::Steps::injected_step))]
-pub fn inject_bits(
-    packing: Packing,
-    data: Lent,
-    mask: Option<&[u8]>,
-    bit_pos: usize,
-    dst_data: &mut [u8],
-)
-    requires tail_len_bound { packing.tail_len.0 < 2 ^ 32 }
-    requires dst_data_len_bound { length dst_data.old ≤ 65535 }
-    requires bit_len_bound { bit_pos + packing.bit_len.0 ≤ 8 * length dst_data.old }
-    ensures { dst_data.new ≡ injected packing.bit_len.0 bit_pos (packed_bits_under (plain_of mask.entry) packing «data».entry.bytes.now) dst_data.old }
-{
-    for i in 0..packing.bit_len.bits() {
-        let bit_value = source_bit(packing, data, mask, i);
-        bits::set_bit_at(dst_data, bit_pos + i, bit_value, false);
+    // ORs the packed data into the destination from a bit position on, in a loop over the index of their bits. The bounds of the destination
+    // are asked again, as those of `apply_bit_mask` in masks are.
+    #[tactic(auto, using(crate::proofs::Packed::bits_packed, bits::proofs::Steps::injected_none, bits::proofs::Steps::injected_step))]
+    pub fn inject_bits(self, mask: Option<&[u8]>, bit_pos: usize, dst_data: &mut [u8])
+        requires dst_data_len_bound { length dst_data.old ≤ 65535 }
+        requires bit_len_bound { bit_pos + self.packing.bit_len.0 ≤ 8 * length dst_data.old }
+        ensures { dst_data.new ≡ injected self.entry.packing.bit_len.0 bit_pos (packed_bits_under (plain_of mask.entry) self.entry.packing self.entry.data.bytes.now) dst_data.old }
+    {
+        for i in 0..self.packing.bit_len.bits() {
+            let bit_value = self.source_bit(mask, i);
+            bits::set_bit_at(dst_data, bit_pos + i, bit_value, false);
+        }
     }
 }
 

@@ -1,10 +1,6 @@
 -- No second answer fits the contract of `part`: the failure, or the bytes and their place, follow from the arguments. `Learnt` is what a
 -- caller learns of the contract, which the toolchain reads from the function's clauses.
-use mathlib.Core.Path.{◌≡◌, sym, ap, ◌∙◌}
-use mathlib.Core.List.{List}
-use Prim.Native.Nat.{ℕ}
-use lib.ListN.{length}
-use Rattle.std.specs.Prelude.{Result, Ok, Err, IfOk}
+use Rattle.std.proofs.Common.{◌≡◌, sym, ap, ◌∙◌, List, ℕ, length, Result, Ok, Err, IfOk}
 use Rattle.std.specs.Borrow.{Bor}
 use Rattle.kinds.specs.declared.lent.Lent.{Lent}
 use Rattle.kinds.specs.declared.refusals.Failure.{Failure}

@@ -1,5 +1,5 @@
 -- RULES 6: the part of a payload that a read with a byte count given at run time hands back.
-use Rattle.std.specs.Prelude.{◌≡◌, ℕ, ◌*◌, cond, not, ◌&&◌, List, [], length, eqb, ltb, Result, Ok, Err}
+use Rattle.std.specs.Prelude.{◌≡◌, ℕ, ◌*◌, cond, not, ◌&&◌, List, [], length, eqb, ltb, Option, Some, None, Result, Ok, Err}
 use Rattle.std.specs.Borrow.{Bor}
 use Rattle.kinds.specs.declared.lent.Lent.{Lent}
 use Rattle.kinds.specs.declared.refusals.Failure.{Failure}
@@ -23,7 +23,7 @@ part_start size at = cond (eqb size 0) 0 at
 
 -- ---- the answer of the code
 
--- a refusal hands back nothing
+-- a refusal hands back no bytes
 abbrev pub part_in : Result Lent Failure → List ℕ
 part_in (Ok part) = part.bytes.now
 part_in (Err failure) = []
@@ -31,3 +31,13 @@ part_in (Err failure) = []
 -- a part lies in the payload where it was asked for
 abbrev pub LiesIn : ℕ → Bor (List ℕ) → Lent → Type 0
 LiesIn at payload part = part.bytes.ref_ptr ≡ place_behind (part_start (length part.bytes.now) at) payload.ref_ptr
+
+-- a part that may be absent: its bytes, and none of the empty part
+abbrev pub bytes_or_none : Option (Bor (List ℕ)) → List ℕ
+bytes_or_none (Some part) = part.now
+bytes_or_none None = []
+
+-- and where it lies: the empty part where what was lent starts
+abbrev pub place_or_start : Option (Bor (List ℕ)) → Bor (List ℕ) → ℕ × ℕ
+place_or_start (Some part) lent = part.ref_ptr
+place_or_start None lent = lent.ref_ptr

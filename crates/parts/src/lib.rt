@@ -4,7 +4,7 @@
 ghost use Rattle.std.specs.Prelude.{◌≡◌, IfOk};
 ghost use Rattle.kinds.specs.Answers.{report_of_part};
 ghost use Rattle.kinds.specs.Outcomes.{answer};
-ghost use Rattle.parts.specs.Part.{runtime_part, part_answer, part_in, LiesIn};
+ghost use Rattle.parts.specs.Part.{runtime_part, part_answer, part_in, LiesIn, bytes_or_none, place_or_start};
 
 use kinds::{ByteCount, Failure, Lent};
 
@@ -33,4 +33,12 @@ pub fn part<'a>(
     Ok(Lent {
         bytes: &uds_payload.bytes[byte_pos..end_pos],
     })
+}
+
+// The part that a call handed back. A refusal hands back none: then the empty part, at the start of what was lent.
+pub fn or_empty<'a>(given: Option<&'a [u8]>, lent: &'a [u8]) -> &'a [u8]
+    ensures result_value { result.now ≡ bytes_or_none given.entry }
+    ensures ref_ptr_value { result.ref_ptr ≡ place_or_start given.entry lent.entry }
+{
+    given.unwrap_or(&lent[..0])
 }

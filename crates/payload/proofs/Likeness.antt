@@ -1,7 +1,5 @@
 -- Sources that are written alike give the same payload.
-use mathlib.Core.Path.{◌≡◌, ap, ◌∙◌}
-use mathlib.Core.List.{List}
-use Prim.Native.Nat.{ℕ, max}
+use Rattle.std.proofs.Common.{◌≡◌, ap, ◌∙◌, List, ℕ, max}
 use Rattle.kinds.specs.declared.types.ByteOrder.{ByteOrder}
 use Rattle.kinds.specs.Slices.{cut}
 use Rattle.kinds.specs.Outcomes.{Outcome, gives, after}

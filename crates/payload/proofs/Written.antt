@@ -1,10 +1,5 @@
 -- A payload that is long enough as it is, and a write that is not refused.
-use mathlib.Core.Path.{◌≡◌, refl, sym}
-use mathlib.Core.List.{List}
-use Prim.Native.Nat.{ℕ, ◌-◌, ◌≤◌}
-use native.Mathlib.Omega.{arith}
-use lib.ListN.{length, replicate}
-use borrow.Author.Tests.{le-ltb}
+use Rattle.std.proofs.Common.{◌≡◌, refl, sym, List, ℕ, ◌-◌, ◌≤◌, arith, length, replicate, le-ltb}
 use Rattle.kinds.specs.declared.types.ByteOrder.{ByteOrder}
 use Rattle.kinds.specs.Outcomes.{gives}
 use Rattle.pack.specs.Source.{Source}

@@ -1,9 +1,6 @@
 -- What a variant finds, where the premise on the payload is only just met: 65,535 bytes, each of them FF.
-use mathlib.Core.Path.{◌≡◌}
-use mathlib.Core.List.{List}
-use Prim.Native.Nat.{ℕ, ◌≤◌}
-use native.Mathlib.Omega.{arith}
-use lib.ListN.{length, replicate, length-replicate}
+use Rattle.std.proofs.Common.{◌≡◌, List, ℕ, ◌≤◌, arith, length, replicate}
+use Rattle.std.proofs.lemmas.List.{length-replicate}
 use Rattle.kinds.specs.declared.types.DataType.TheVariants.{ByteField}
 use Rattle.kinds.specs.declared.types.ByteOrder.TheVariants.{Keep}
 use Rattle.kinds.specs.Types.{is_unicode_type}

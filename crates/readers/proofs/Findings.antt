@@ -1,13 +1,5 @@
 -- What is read at the place that each variant names is what the variant finds.
-use mathlib.Core.Path.{◌≡◌, ap, ◌∙◌}
-use mathlib.Core.Logic.{⊎_elim}
-use mathlib.Core.Bool.{◌&&◌}
-use mathlib.Core.List.{List}
-use Prim.Native.Nat.{ℕ, ◌-◌, ◌*◌, ◌≤◌, ◌<◌}
-use native.Mathlib.Omega.{arith}
-use lib.ListN.{length}
-use lib.Dec.{ltb}
-use borrow.Author.Tests.{lt-ltb, le-ltb, ltb-false}
+use Rattle.std.proofs.Common.{◌≡◌, ap, ◌∙◌, ⊎_elim, ◌&&◌, List, ℕ, ◌-◌, ◌*◌, ◌≤◌, ◌<◌, arith, length, ltb, lt-ltb, le-ltb, ltb-false, Ok, Err}
 use Rattle.kinds.specs.declared.types.DataType.{DataType}
 use Rattle.kinds.specs.declared.types.ByteOrder.{ByteOrder}
 use Rattle.kinds.specs.Types.{is_unicode_type}
@@ -17,7 +9,6 @@ use Rattle.kinds.specs.Answers.{passed, report_of_reading}
 use Rattle.kinds.specs.declared.refusals.PosInfo.{PosInfo}
 use Rattle.kinds.specs.declared.refusals.Failure.{Failure}
 use Rattle.kinds.specs.declared.refusals.Failure.TheVariants.{NotEnoughData, Refused}
-use Rattle.std.specs.Prelude.{Ok, Err}
 use Rattle.kinds.specs.CodePlaces.{Span, span, outcome_of_search}
 use Rattle.kinds.specs.Refusals.{bit_length_refusal}
 use Rattle.kinds.proofs.Compare.{below}

@@ -8,9 +8,11 @@ ghost use Rattle.readers.specs.Finding.{standard_finding, leading_finding, min_m
 ghost use Rattle.readers.specs.CodeReading.{read_bits};
 
 use coded::MinMaxLengthType;
-use kinds::{BitLength, ByteCount, ByteOrder, Counts, DataType, Failure, Lent, PosInfo, Position};
+use field::Field;
+use kinds::{BitLength, ByteCount, ByteOrder, Counts, Failure, Lent, PosInfo, Position};
 use masks::Mask;
 
+// 30, and then the bits at a place. It takes no `Field`, since data bytes have no mask, whatever the field has.
 #[tactic(auto, using(crate::proofs::Places::no_bits, crate::proofs::Places::too_short_lem, crate::proofs::Places::in_payload), unfolding(unpack::specs::Found::read_answer))]
 fn unpack_at(
     pos_info: PosInfo,
@@ -61,17 +63,17 @@ fn unpack_data_bytes(
 
 #[tactic(auto, using(crate::proofs::Findings::leading_failed, crate::proofs::Findings::leading_found))]
 pub fn decode_leading_len(
-    base_datatype: DataType,
+    field: Field,
     bits: BitLength,
     payload: Lent,
     byte_pos: usize,
-    byte_order: ByteOrder,
     output: &mut [u8],
 ) -> Result<Counts, Failure>
-    ensures { answer (report_of_reading result) output.new ≡ read_answer output.old (leading_finding base_datatype byte_order bits.0 payload.entry.bytes.now byte_pos) }
+    ensures { answer (report_of_reading result) output.new ≡ read_answer output.old (leading_finding field.entry.base_datatype field.entry.byte_order bits.0 payload.entry.bytes.now byte_pos) }
 {
+    let byte_order = field.byte_order;
     let pos_info = length_field::pos_info_leading_len(
-        base_datatype,
+        field.base_datatype,
         payload,
         byte_pos,
         byte_order,
@@ -82,37 +84,41 @@ pub fn decode_leading_len(
 
 #[tactic(auto, using(crate::proofs::Findings::min_max_failed, crate::proofs::Findings::min_max_found))]
 pub fn decode_min_max_len(
-    base_datatype: DataType,
+    field: Field,
     limits: MinMaxLengthType,
     payload: Lent,
     byte_pos: usize,
-    byte_order: ByteOrder,
     output: &mut [u8],
 ) -> Result<Counts, Failure>
-    ensures { answer (report_of_reading result) output.new ≡ read_answer output.old (min_max_finding base_datatype byte_order limits payload.entry.bytes.now byte_pos) }
+    ensures { answer (report_of_reading result) output.new ≡ read_answer output.old (min_max_finding field.entry.base_datatype field.entry.byte_order limits payload.entry.bytes.now byte_pos) }
 {
-    let is_unicode = base_datatype.is_unicode();
+    let is_unicode = field.base_datatype.is_unicode();
     let pos_info = scans::pos_info_min_max_len(is_unicode, payload, byte_pos, limits)?;
-    unpack_data_bytes(pos_info, payload.bytes, byte_order, output)
+    unpack_data_bytes(pos_info, payload.bytes, field.byte_order, output)
 }
 
 // A field whose length the description tells is where it says.
 #[tactic(auto, using(crate::proofs::Findings::standard_found), unfolding(unpack::specs::Found::read_answer))]
 pub fn decode_standard_len(
-    base_datatype: DataType,
+    field: Field,
     bit_length: BitLength,
-    mask: Mask,
     payload: Lent,
     at: Position,
-    byte_order: ByteOrder,
     output: &mut [u8],
 ) -> Result<Counts, Failure>
-    ensures { answer (report_of_reading result) output.new ≡ read_answer output.old (standard_finding base_datatype byte_order bit_length.0 (mask_of mask.entry) payload.entry.bytes.now at.byte_pos at.bit_pos) }
+    ensures { answer (report_of_reading result) output.new ≡ read_answer output.old (standard_finding field.entry.base_datatype field.entry.byte_order bit_length.0 (mask_of field.entry.mask) payload.entry.bytes.now at.byte_pos at.bit_pos) }
 {
-    base_datatype.validate_bit_len(bit_length)?;
+    field.base_datatype.validate_bit_len(bit_length)?;
     let pos_info = PosInfo {
         bit_len: bit_length,
         start_pos: at.byte_pos,
     };
-    unpack_at(pos_info, at.bit_pos, mask, payload, byte_order, output)
+    unpack_at(
+        pos_info,
+        at.bit_pos,
+        field.mask,
+        payload,
+        field.byte_order,
+        output,
+    )
 }

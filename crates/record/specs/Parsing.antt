@@ -7,7 +7,7 @@ use Rattle.coded.specs.declared.variants.Termination.{Termination}
 use Rattle.coded.specs.declared.variants.DiagCodedTypeVariant.{DiagCodedTypeVariant}
 use Rattle.coded.specs.declared.variants.DiagCodedTypeVariant.TheVariants.{LeadingLengthInfo, MinMaxLength, StandardLength, ParamLengthInfo}
 use Rattle.coded.specs.declared.coded_type.DiagCodedType.{DiagCodedType}
-use Rattle.coded.specs.Codes.{termination_of}
+use Rattle.coded.specs.RecordCodes.{termination_of}
 use Rattle.record.specs.declared.numbers.Numbers.{Numbers}
 use Rattle.record.specs.Numbers.{record_size, numbers_of}
 

@@ -1,6 +1,6 @@
 // The numbers of a record, big-endian.
 ghost use Rattle.std.specs.Prelude.{◌≡◌, ◌+◌, ◌/◌, ◌%◌, ◌≤◌, ◌<◌, length, eqb};
-ghost use Rattle.record.specs.Numbers.{be16, be32, flags_of, record_size, numbers_of};
+ghost use Rattle.record.specs.Numbers.{be16};
 
 use coded::Place;
 use kinds::ByteCount;
@@ -30,22 +30,11 @@ pub struct Numbers {
     pub place: Place,
 }
 
-pub fn read16(bytes: &[u8], at: usize) -> u32
+pub fn read16(bytes: &[u8], at: usize) -> u16
     requires { at + 2 ≤ length bytes.now }
     ensures { (result ≡ be16 bytes.now at) × (result < 65536) }
 {
-    let high = bytes[at] as u32;
-    let low = bytes[at + 1] as u32;
-    256 * high + low
-}
-
-fn read32(bytes: &[u8], at: usize) -> u32
-    requires { at + 4 ≤ length bytes.now }
-    ensures { result ≡ be32 bytes.now at }
-{
-    let high = read16(bytes, at);
-    let low = read16(bytes, at + 2);
-    65536 * high + low
+    u16::from_be_bytes([bytes[at], bytes[at + 1]])
 }
 
 // Whether a byte has the flag that counts so much.
@@ -56,37 +45,61 @@ fn has_flag(byte: u8, weight: u8) -> bool
     byte / weight % 2 == 1
 }
 
-fn flags_of(byte: u8) -> Flags
-    ensures { result ≡ flags_of byte }
-{
-    Flags {
-        high_low: byte % 2 == 1,
-        mask: has_flag(byte, 2),
-        condensed: has_flag(byte, 4),
-        max: has_flag(byte, 8),
-        others: byte / 16,
+// The flags of their byte.
+impl From<u8> for Flags {
+    ghost use Rattle.std.specs.Prelude.{◌≡◌};
+    ghost use Rattle.record.specs.Numbers.{flags_of};
+
+    ghost from_gives = { λ byte flags. flags ≡ flags_of byte };
+
+    fn from(byte: u8) -> Flags {
+        Flags {
+            high_low: byte % 2 == 1,
+            mask: has_flag(byte, 2),
+            condensed: has_flag(byte, 4),
+            max: has_flag(byte, 8),
+            others: byte / 16,
+        }
     }
 }
 
-pub fn numbers_of(record: &[u8]) -> Numbers
-    requires { length «record».now ≡ record_size }
-    ensures { result ≡ numbers_of «record».now }
-{
-    let flags = flags_of(record[1]);
-    let length = read32(record, 4);
-    let most = read32(record, 8);
-    let at = read16(record, 12);
-    let len = read16(record, 14);
-    Numbers {
-        type_code: record[0],
-        flags,
-        variant: record[2],
-        termination: record[3],
-        length,
-        most,
-        place: Place {
-            at: at as usize,
-            len: ByteCount::of_number(len),
-        },
+// The numbers of a record's bytes.
+impl From<[u8; RECORD_SIZE]> for Numbers {
+    ghost use Rattle.std.specs.Prelude.{◌≡◌};
+    ghost use Rattle.record.specs.Numbers.{numbers_of};
+
+    ghost from_gives = { λ bytes numbers. numbers ≡ numbers_of bytes };
+
+    fn from(bytes: [u8; RECORD_SIZE]) -> Numbers {
+        let [
+            type_code,
+            flags,
+            variant,
+            termination,
+            l0,
+            l1,
+            l2,
+            l3,
+            m0,
+            m1,
+            m2,
+            m3,
+            a0,
+            a1,
+            n0,
+            n1,
+        ] = bytes;
+        Numbers {
+            type_code,
+            flags: Flags::from(flags),
+            variant,
+            termination,
+            length: u32::from_be_bytes([l0, l1, l2, l3]),
+            most: u32::from_be_bytes([m0, m1, m2, m3]),
+            place: Place {
+                at: usize::from(u16::from_be_bytes([a0, a1])),
+                len: ByteCount::of_number(u32::from(u16::from_be_bytes([n0, n1]))),
+            },
+        }
     }
 }

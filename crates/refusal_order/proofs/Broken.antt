@@ -1,11 +1,6 @@
 -- Inputs that break several rules at once, of each call and variant, as one table that the checker computes: the number that the call gives,
 -- and all rows of the page that hold, of which it is the first.
-use mathlib.Core.Path.{◌≡◌, refl}
-use mathlib.Core.Bool.{true, cond}
-use mathlib.Core.List.{List, [], ◌∷◌}
-use Prim.Native.Nat.{ℕ}
-use lib.ListN.{replicate}
-use lib.IntN as int
+use Rattle.std.proofs.Common.{◌≡◌, refl, true, cond, List, [], ◌∷◌, ℕ, replicate}
 use Rattle.kinds.proofs.Examples.{Example, hold, ◌is◌}
 use Rattle.kinds.specs.Answers.{number_in}
 use Rattle.order.specs.Order.{ordered, swap_pairs}
@@ -28,6 +23,7 @@ use Rattle.values.specs.Values.{value_read, value_written, value_read_by_code, v
 use Rattle.calls.specs.Calls.{by_record, decoded, encoded, cleared_field, runtime_read, key_name}
 use Rattle.dct.specs.Boundary.{places_fetched}
 use Rattle.refusal_order.specs.RefusalsInOrder.{Row, decode_order, read_order, encode_order, clear_order, fetch_order, key_name_order, read_value_order, write_value_order}
+use lib.IntN as int
 
 -- the numbers of all rows whose tests hold
 abbrev broken : List Row → List ℕ

@@ -1,11 +1,5 @@
 -- The number that an outcome ends in, a law for each step: a check, 30, what follows, and the answer of a call.
-use mathlib.Core.Path.{◌≡◌, refl}
-use mathlib.Core.Bool.{Bool, true, false, cond}
-use mathlib.Core.List.{List}
-use Prim.Native.Nat.{ℕ}
-use lib.ListN.{length}
-use lib.Dec.{ltb}
-use Rattle.std.specs.Prelude.{Ok, Err}
+use Rattle.std.proofs.Common.{◌≡◌, refl, Bool, true, false, cond, List, ℕ, length, ltb, Ok, Err}
 use Rattle.kinds.specs.declared.refusals.Refusal.{Refusal}
 use Rattle.kinds.specs.declared.refusals.Refusal.TheVariants.{OutputLacksRoom}
 use Rattle.kinds.specs.Answers.{Check, passed, number_of, number_in}

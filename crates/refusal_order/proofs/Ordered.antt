@@ -1,14 +1,5 @@
 -- The order of refusals is proved: what specs/RefusalsInOrder states.
-use mathlib.Core.Path.{◌≡◌, refl, sym, ◌∙◌}
-use mathlib.Core.Bool.{Bool, true, false, cond, not, ◌&&◌}
-use mathlib.Core.List.{List, [], ◌∷◌}
-use Prim.Native.Nat.{ℕ, ◌*◌}
-use native.Mathlib.Omega.{arith}
-use lib.ListN.{length}
-use lib.Dec.{eqb, ltb}
-use lib.IntN.{ℤ}
-use borrow.Author.Tests.{le-ltb}
-use Rattle.std.specs.Prelude.{Option, Some, None, Err}
+use Rattle.std.proofs.Common.{◌≡◌, refl, sym, ◌∙◌, Bool, true, false, cond, not, ◌&&◌, List, [], ◌∷◌, ℕ, ◌*◌, arith, length, eqb, ltb, ℤ, le-ltb, Option, Some, None, Err}
 use Rattle.kinds.specs.declared.refusals.Refusal.TheVariants.{SliceTooLong, WidthNotAllowed, ValueOutOfRange, DigitAboveNine}
 use Rattle.kinds.specs.Answers.{passed, number_in, wrote, read, report_of_check}
 use Rattle.kinds.specs.Slices.{saturating_sum}

@@ -1,12 +1,5 @@
 -- What every call refuses first is what the page says: 43, 44, 45, 42, then 12, 13, 10, 11.
-use mathlib.Core.Path.{◌≡◌, refl, sym, ◌∙◌}
-use mathlib.Core.Bool.{Bool, true, false, cond, ◌&&◌, ◌||◌}
-use mathlib.Core.List.{List}
-use Prim.Native.Nat.{ℕ, ◌≤◌}
-use lib.ListN.{length}
-use lib.Dec.{eqb, ltb, leb}
-use borrow.Author.Tests.{ltb-false}
-use Rattle.std.specs.Prelude.{Option, Some, None, is_none}
+use Rattle.std.proofs.Common.{◌≡◌, refl, sym, ◌∙◌, Bool, true, false, cond, ◌&&◌, ◌||◌, List, ℕ, ◌≤◌, length, eqb, ltb, leb, ltb-false, Option, Some, None, is_none}
 use Rattle.kinds.specs.Types.{is_numeric, is_unicode_type}
 use Rattle.kinds.specs.Slices.{cut}
 use Rattle.kinds.specs.Outcomes.{Outcome, gives, after, following}

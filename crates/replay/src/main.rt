@@ -6,7 +6,7 @@ use std::io::Read;
 use stored_answers::Verdict;
 
 // How many answers were the same, and how many not.
-#[derive(Clone, Copy)]
+#[derive(Clone, Copy, Debug, PartialEq, Eq)]
 struct Counts {
     same: u64,
     other: u64,

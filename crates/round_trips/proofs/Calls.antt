@@ -1,12 +1,5 @@
 -- What the two calls give where nothing is refused.
-use mathlib.Core.Path.{◌≡◌, refl, ap, ◌∙◌}
-use mathlib.Core.Bool.{Bool, true, false, not}
-use mathlib.Core.List.{List, [], ◌∷◌}
-use Prim.Native.Nat.{ℕ, ◌*◌, ◌^◌, ◌≤◌, ◌<◌}
-use native.Mathlib.Omega.{arith}
-use lib.ListN.{length}
-use lib.IntN.{ℤ}
-use borrow.Author.Tests.{le-ltb, eq-eqb}
+use Rattle.std.proofs.Common.{◌≡◌, refl, ap, ◌∙◌, Bool, true, false, not, List, [], ◌∷◌, ℕ, ◌*◌, ◌^◌, ◌≤◌, ◌<◌, arith, length, ℤ, le-ltb, eq-eqb}
 use Rattle.kinds.specs.Types.{bytes_for}
 use Rattle.kinds.specs.declared.refusals.Refusal.TheVariants.{DigitAboveNine}
 use Rattle.kinds.specs.Answers.{passed, wrote, number_in}

@@ -1,13 +1,6 @@
 -- Bits and numbers: the bits of a number say it, bits are those of what they say, and what they say is in the range.
-use mathlib.Core.Path.{◌≡◌, refl, sym, ap, ◌∙◌}
-use mathlib.Core.Logic.{⊎_elim}
-use mathlib.Core.Bool.{true, false, true≢false}
-use Prim.Native.Nat.{ℕ, zero, suc, ◌+◌, ◌-◌, ◌*◌, ◌/◌, ◌^◌, ◌≤◌, ◌<◌}
-use native.Mathlib.Omega.{arith}
-use native.Mathlib.Nat.{pow-suc, pow-le-pow_right}
-use lib.IntN.{ℤ, pos, negsuc, neg_ℤ}
-use lib.Pow.{pow-add, pow_pos}
-use borrow.Author.Tests.{le-leb, leb-true}
+use Rattle.std.proofs.Common.{◌≡◌, refl, sym, ap, ◌∙◌, ⊎_elim, true, false, true≢false, ℕ, zero, suc, ◌+◌, ◌-◌, ◌*◌, ◌/◌, ◌^◌, ◌≤◌, ◌<◌, arith, pow-suc, ℤ, pos, negsuc, neg_ℤ, pow-add, pow_pos, le-leb, leb-true}
+use native.Mathlib.Nat.{pow-le-pow_right}
 use Rattle.kinds.proofs.Compare.{below}
 use Rattle.numerals.specs.Digits.{rebased}
 use Rattle.numerals.proofs.Rebased.{digits_all, digits_made, rebased-lt, rebased_back}

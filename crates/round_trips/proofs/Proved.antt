@@ -1,14 +1,6 @@
 -- Values are read back and written back: what specs/RoundTrips states is proved.
-use mathlib.Core.Path.{◌≡◌, sym, ap, ◌∙◌}
-use mathlib.Core.Logic.{⊎_elim}
-use mathlib.Core.Bool.{true}
-use mathlib.Core.List.{List}
-use Prim.Native.Nat.{ℕ, ◌%◌, ◌^◌, ◌≤◌, ◌<◌}
-use native.Mathlib.Omega.{arith}
-use native.Mathlib.Nat.{div-eq_of_lt, lt_of_lt_of_le}
-use lib.ListN.{replicate}
-use lib.Pow.{pow_mono}
-use lib.IntN.{ℤ, pos}
+use Rattle.std.proofs.Common.{◌≡◌, sym, ap, ◌∙◌, ⊎_elim, true, List, ℕ, ◌%◌, ◌^◌, ◌≤◌, ◌<◌, arith, lt_of_lt_of_le, replicate, pow_mono, ℤ, pos, Some}
+use native.Mathlib.Nat.{div-eq_of_lt}
 use Rattle.kinds.specs.Types.{bytes_for}
 use Rattle.kinds.specs.Answers.{wrote}
 use Rattle.kinds.specs.Outcomes.{Answer, answer}
@@ -27,7 +19,6 @@ use Rattle.encodings.proofs.Meaning.{widths}
 use Rattle.round_trips.specs.RoundTrips.{Sized, ReadsBack, RoundTrips, AllRoundTrips}
 use Rattle.round_trips.proofs.Patterns.{NoSecondZero, le_above, le_below, number_said, bits_back, said_in_range, zero_bits}
 use Rattle.round_trips.proofs.Calls.{read_of, read_means, written_of, bits_of-packed}
-use Rattle.std.specs.Prelude.{Some}
 
 -- a number has no bits at or above its width
 above_zero : (width x k : ℕ) → x < 2 ^ width → width ≤ k → bit x k ≡ 0

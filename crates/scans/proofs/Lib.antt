@@ -1,2 +1,2 @@
--- `Scans` has the steps of a scan, how far it goes, and what is found by its end.
+-- `Scans` has the steps of a scan, and how far it goes.
 pub mod Scans

@@ -1,15 +1,9 @@
 -- Where data bytes between limits end: the steps of a scan, and how far it goes.
-use mathlib.Core.Path.{◌≡◌, refl, ap}
-use mathlib.Core.Bool.{Bool, true, false, cond}
-use mathlib.Core.List.{List}
-use Prim.Native.Nat.{ℕ, zero, suc, ◌+◌, ◌-◌, ◌*◌, ◌/◌, ◌≤◌, ◌<◌, max}
-use native.Mathlib.Omega.{arith}
-use lib.ListN.{length}
+use Rattle.std.proofs.Common.{◌≡◌, refl, ap, Bool, true, false, cond, List, ℕ, zero, suc, ◌+◌, ◌-◌, ◌*◌, ◌/◌, ◌≤◌, ◌<◌, max, arith, length, None, Option, Some}
 use Rattle.coded.specs.declared.variants.Termination.{Termination}
 use Rattle.coded.specs.declared.variants.Termination.TheVariants.{EndOfPdu, Zero, HexFF}
 use Rattle.coded.specs.declared.variants.MinMaxLengthType.{MinMaxLengthType}
 use Rattle.scans.specs.MinMax.{end_by_max, stops_at, scan, scanned, end_by, min_max_end}
-use Rattle.std.specs.Prelude.{None, Option, Some}
 
 max_end-le : (m : Option ℕ) (at n : ℕ) → end_by_max m at n ≤ n
 max_end-le (Some most) at n = omega arith

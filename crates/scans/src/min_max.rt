@@ -9,7 +9,7 @@ use kinds::{ByteCount, Failure, Lent, PosInfo, Refusal};
 
 // Data bytes of which the end is looked for: whether they are text of two bytes to a character, where they start, and how many
 // there are at least.
-#[derive(Clone, Copy)]
+#[derive(Clone, Copy, Debug, PartialEq, Eq)]
 struct Scan<'a> {
     is_unicode: bool,
     uds_payload: &'a [u8],

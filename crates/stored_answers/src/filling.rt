@@ -18,6 +18,7 @@ impl From<io::Error> for Stop {
 }
 
 // Reads until the buffer is full or the input ends, and returns how many bytes came. A read that a signal interrupts is tried again.
+// A loop over how many came, and not `read_exact`: of an input that ends, that one does not tell whether none came or some.
 pub fn read_full<R: Read>(input: &mut R, buffer: &mut [u8]) -> io::Result<usize>
     ensures { IfOk result (λ n. n ≤ length buffer.new) }
 {

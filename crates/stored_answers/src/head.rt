@@ -2,38 +2,53 @@
 
 pub const HEAD_LEN: usize = 21;
 
-#[derive(Clone, Copy)]
+// A call, and the numbers that it alone is given and leaves.
+#[derive(Clone, Copy, Debug, PartialEq, Eq)]
 pub enum Call {
-    Decode,
-    Encode,
-    Clear,
-    Read,
+    // With room for so many bytes.
+    Decode { room: u8 },
+    // The used length, and what it is after the call.
+    Encode { used: usize, used_after: usize },
+    Clear { used: usize },
+    // How many bytes are asked for, and where in the payload they start.
+    Read { byte_count: usize, place: usize },
 }
 
-impl Call {
-    fn of_code(code: u8) -> Option<Self> {
+// A code that no call has.
+#[derive(Clone, Copy, Debug, PartialEq, Eq)]
+pub struct UnknownCall;
+
+impl TryFrom<[u8; 3]> for Call {
+    type Error = UnknownCall;
+
+    // Of a code, the number that goes in and the one that comes out.
+    fn try_from([code, given, left]: [u8; 3]) -> Result<Self, UnknownCall> {
         match code {
-            1 => Some(Call::Decode),
-            2 => Some(Call::Encode),
-            3 => Some(Call::Clear),
-            4 => Some(Call::Read),
-            _ => None,
+            1 => Ok(Call::Decode { room: given }),
+            2 => Ok(Call::Encode {
+                used: usize::from(given),
+                used_after: usize::from(left),
+            }),
+            3 => Ok(Call::Clear {
+                used: usize::from(given),
+            }),
+            4 => Ok(Call::Read {
+                byte_count: usize::from(given),
+                place: usize::from(left),
+            }),
+            _ => Err(UnknownCall),
         }
     }
 }
 
-#[derive(Clone, Copy)]
+#[derive(Clone, Copy, Debug, PartialEq, Eq)]
 pub struct Head {
-    pub call: Option<Call>,
+    pub call: Result<Call, UnknownCall>,
     pub number: u32,
     pub store_len: u8,
     pub input_len: u8,
     pub payload_len: u8,
     pub after_len: u8,
-    // A decode's room, the used length before an encode or a clear, or how many bytes a runtime read asks for.
-    pub given: u8,
-    // The used length after an encode, or where the part of a runtime read starts.
-    pub left: usize,
     pub byte_pos: usize,
     pub bit_pos: usize,
     // Bit count, byte count, expected and actual.
@@ -48,7 +63,7 @@ fn far(number: i32) -> usize {
 impl From<[u8; HEAD_LEN]> for Head {
     fn from(bytes: [u8; HEAD_LEN]) -> Self {
         let [
-            call,
+            code,
             number,
             store_len,
             input_len,
@@ -71,14 +86,12 @@ impl From<[u8; HEAD_LEN]> for Head {
             actual,
         ] = bytes;
         Head {
-            call: Call::of_code(call),
+            call: Call::try_from([code, given, left]),
             number: u32::from(number),
             store_len,
             input_len,
             payload_len,
             after_len,
-            given,
-            left: usize::from(left),
             byte_pos: far(i32::from_be_bytes([p0, p1, p2, p3])),
             bit_pos: far(i32::from(bit_pos.cast_signed())),
             report: [

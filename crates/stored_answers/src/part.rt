@@ -4,7 +4,8 @@ use std::io::Read;
 
 const MOST: usize = 255;
 
-#[derive(Clone, Copy)]
+// A fixed space and how much of it is used, and no vector: nothing is allocated.
+#[derive(Clone, Copy, Debug, PartialEq, Eq)]
 pub struct Part {
     space: [u8; MOST],
     len: u8,

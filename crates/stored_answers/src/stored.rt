@@ -1,6 +1,6 @@
 // A stored answer, and what becomes of it: its call, made again, is compared with it in full.
 use super::filling::{Stop, fill};
-use super::head::{Call, Head};
+use super::head::{Call, Head, UnknownCall};
 use super::part::Part;
 use std::io::Read;
 
@@ -16,7 +16,7 @@ pub enum Verdict {
     Cut,
 }
 
-#[derive(Clone, Copy)]
+#[derive(Clone, Copy, Debug, PartialEq, Eq)]
 pub struct Stored {
     head: Head,
     record: [u8; 16],
@@ -53,8 +53,8 @@ impl Stored {
             && left.bytes().get(behind..) == before.bytes().get(behind..)
     }
 
-    fn decodes(&self) -> bool {
-        let blank = Part::blank(self.head.given);
+    fn decodes(&self, room: u8) -> bool {
+        let blank = Part::blank(room);
         let mut output = blank;
         let mut report = [UNWRITTEN; 4];
         let number = dct::dct_decode(
@@ -69,9 +69,9 @@ impl Stored {
         self.gives(number, report) && self.leaves(&output, &blank)
     }
 
-    fn encodes(&self) -> bool {
+    fn encodes(&self, used: usize, used_after: usize) -> bool {
         let mut payload = self.payload;
-        let mut used = usize::from(self.head.given);
+        let mut used = used;
         let mut report = [UNWRITTEN; 4];
         let number = dct::dct_encode(
             &self.record,
@@ -83,17 +83,17 @@ impl Stored {
             self.head.bit_pos,
             &mut report,
         );
-        self.gives(number, report) && used == self.head.left && self.leaves(&payload, &self.payload)
+        self.gives(number, report) && used == used_after && self.leaves(&payload, &self.payload)
     }
 
-    fn clears(&self) -> bool {
+    fn clears(&self, used: usize) -> bool {
         let mut payload = self.payload;
         let mut report = [UNWRITTEN; 4];
         let number = dct::dct_clear(
             &self.record,
             self.store.bytes(),
             payload.bytes_mut(),
-            usize::from(self.head.given),
+            used,
             self.head.byte_pos,
             self.head.bit_pos,
             &mut report,
@@ -101,33 +101,33 @@ impl Stored {
         self.gives(number, report) && self.leaves(&payload, &self.payload)
     }
 
-    fn reads(&self) -> bool {
-        let mut place = UNWRITTEN;
+    fn reads(&self, byte_count: usize, place: usize) -> bool {
+        let mut start = UNWRITTEN;
         let mut report = [UNWRITTEN; 4];
         let number = dct::dct_read(
             &self.record,
             self.store.bytes(),
             self.payload.bytes(),
             self.head.byte_pos,
-            usize::from(self.head.given),
-            &mut place,
+            byte_count,
+            &mut start,
             &mut report,
         );
         let [_, count, _, _] = report;
-        let rest = self.payload.bytes().get(place..);
+        let rest = self.payload.bytes().get(start..);
         self.gives(number, report)
-            && place == self.head.left
+            && start == place
             && rest.and_then(|rest| rest.get(..count)) == Some(self.after.bytes())
     }
 
     // Makes the call again. A code that no call has is never stored.
     pub fn verdict(&self) -> Verdict {
         let same = match self.head.call {
-            Some(Call::Decode) => self.decodes(),
-            Some(Call::Encode) => self.encodes(),
-            Some(Call::Clear) => self.clears(),
-            Some(Call::Read) => self.reads(),
-            None => false,
+            Ok(Call::Decode { room }) => self.decodes(room),
+            Ok(Call::Encode { used, used_after }) => self.encodes(used, used_after),
+            Ok(Call::Clear { used }) => self.clears(used),
+            Ok(Call::Read { byte_count, place }) => self.reads(byte_count, place),
+            Err(UnknownCall) => false,
         };
         if same { Verdict::Same } else { Verdict::Other }
     }

@@ -1,11 +1,5 @@
 -- The theorems of `OneToOne` at inputs that only just meet their premises, so that a stronger premise is refused here.
-use mathlib.Core.Path.{◌≡◌, refl}
-use mathlib.Core.Bool.{Bool, true, false, ◌&&◌}
-use mathlib.Core.List.{List, [], ◌∷◌}
-use Prim.Native.Nat.{ℕ, zero, suc}
-use native.Mathlib.Omega.{arith}
-use lib.Dec.{ltb}
-use borrow.Author.Tests.{ltb-true}
+use Rattle.std.proofs.Common.{◌≡◌, refl, Bool, true, false, ◌&&◌, List, [], ◌∷◌, ℕ, zero, suc, arith, ltb, ltb-true, Some}
 use Rattle.kinds.specs.declared.types.DataType.TheVariants.{UInt32, AsciiString}
 use Rattle.kinds.specs.Answers.{wrote}
 use Rattle.kinds.specs.Outcomes.{answer}
@@ -17,7 +11,6 @@ use Rattle.coded.specs.declared.coded_type.DiagCodedType.{DiagCodedType}
 use Rattle.record.specs.Parsing.{coded_of, coded_in}
 use Rattle.storing.specs.Storing.{stored_record}
 use Rattle.storing.proofs.OneToOne.{Storable, stored_parses, parsed_stored, one_record, one_coded_type}
-use Rattle.std.specs.Prelude.{Some}
 
 -- ---- coded types
 

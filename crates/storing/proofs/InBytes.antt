@@ -1,12 +1,6 @@
 -- The numbers of a record stand in its bytes, and its bytes in its numbers.
-use mathlib.Core.Path.{◌≡◌, refl, ap}
-use mathlib.Core.Bool.{Bool, true, false}
-use mathlib.Core.List.{List, [], ◌∷◌}
-use Prim.Native.Nat.{ℕ, zero, suc, ◌+◌, ◌*◌, ◌/◌, ◌%◌, ◌≤◌, ◌<◌, ◌^◌}
+use Rattle.std.proofs.Common.{◌≡◌, refl, ap, Bool, true, false, List, [], ◌∷◌, ℕ, zero, suc, ◌+◌, ◌*◌, ◌/◌, ◌%◌, ◌≤◌, ◌<◌, ◌^◌, arith, length, get_or, eqb}
 use native.Mathlib.Nat.{suc_inj}
-use native.Mathlib.Omega.{arith}
-use lib.ListN.{length, get_or}
-use lib.Dec.{eqb}
 use Rattle.bits.proofs.Bytes.{Bytes}
 use Rattle.record.specs.declared.numbers.Flags.{Flags}
 use Rattle.record.specs.declared.numbers.Numbers.{Numbers}

@@ -1,9 +1,6 @@
 -- A coded type is what its numbers say, and no other numbers say it.
-use mathlib.Core.Path.{◌≡◌, refl, sym, subst}
-use mathlib.Core.Bool.{Bool, true, false, cond, not, ◌||◌, ◌&&◌}
-use Prim.Native.Nat.{ℕ}
-use lib.Dec.{eqb}
-use borrow.Author.Tests.{eqb-true, not-false}
+use Rattle.std.proofs.Common.{◌≡◌, refl, sym, subst, Bool, true, false, cond, not, ◌||◌, ◌&&◌, ℕ, eqb, eqb-true, is_some, unwrap_or, None, Option, Some}
+use Rattle.std.proofs.lemmas.Bool.{not-false}
 use Rattle.kinds.specs.declared.types.DataType.{DataType}
 use Rattle.kinds.specs.declared.types.DataType.TheVariants.{Int32, UInt32, Float32, AsciiString, Utf8String, Unicode2String, ByteField, Float64}
 use Rattle.kinds.specs.declared.types.BitLength.{BitLength}
@@ -17,10 +14,8 @@ use Rattle.coded.specs.declared.variants.DiagCodedTypeVariant.TheVariants.{Leadi
 use Rattle.coded.specs.declared.coded_type.DiagCodedType.{DiagCodedType}
 use Rattle.record.specs.declared.numbers.Numbers.{Numbers}
 use Rattle.record.specs.Parsing.{has_limits, has_mask, has_place, leading_of, limits_by, min_max_of, standard_of, param_of, variant_of, made, coded_of}
-use Rattle.std.specs.Prelude.{is_some, unwrap_or}
 use Rattle.storing.specs.Storing.{nowhere, flags, plain_numbers, variant_numbers, numbers_for}
-use Rattle.std.specs.Prelude.{None, Option, Some}
-use Rattle.coded.specs.Codes.{termination_of, termination_code}
+use Rattle.coded.specs.RecordCodes.{termination_of, termination_code}
 
 -- the numbers of a coded type say it
 typed : (d : DataType) → type_of (type_code_of d) ≡ Some d

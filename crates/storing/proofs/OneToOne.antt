@@ -1,14 +1,7 @@
 -- Each legal record has one coded type, and each coded type one record.
-use mathlib.Core.Path.{◌≡◌, sym, ap, ◌∙◌}
-use mathlib.Core.Logic.{⊎_elim}
-use mathlib.Core.List.{List, []}
-use Prim.Native.Nat.{ℕ, ◌≤◌, ◌<◌, ◌^◌}
-use native.Mathlib.Omega.{arith}
-use lib.ListN.{length}
-use lib.Dec.{ltb}
-use borrow.Author.Tests.{eq-eqb, ne_eqb, ltb-false, le-ltb}
+use Rattle.std.proofs.Common.{◌≡◌, sym, ap, ◌∙◌, ⊎_elim, List, [], ℕ, ◌≤◌, ◌<◌, ◌^◌, arith, length, ltb, eq-eqb, ne_eqb, ltb-false, le-ltb, None, Option, Some}
 use Rattle.kinds.specs.declared.refusals.Refusal.TheVariants.{MalformedRecord}
-use Rattle.kinds.specs.Answers.{wrote}
+use Rattle.kinds.specs.Answers.{wrote, passed}
 use Rattle.kinds.specs.Outcomes.{answer}
 use Rattle.kinds.proofs.Compare.{same}
 use Rattle.kinds.proofs.Outcomes.{rule_passed}
@@ -20,8 +13,6 @@ use Rattle.record.specs.Parsing.{coded_of, coded_in}
 use Rattle.storing.specs.Storing.{numbers_for, storing_refusal, stored_record}
 use Rattle.storing.proofs.InBytes.{numbers_read, bytes_written}
 use Rattle.storing.proofs.InNumbers.{numbers_say, no_others_say}
-use Rattle.std.specs.Prelude.{None, Option, Some}
-use Rattle.kinds.specs.Answers.{passed}
 
 -- a place is refused unless 16 bits can say it
 sayable : (p : Place) → storing_refusal p ≡ passed → (p.at < 65536) × (p.len.0 < 65536)

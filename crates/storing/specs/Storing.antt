@@ -13,7 +13,7 @@ use Rattle.coded.specs.declared.coded_type.DiagCodedType.{DiagCodedType}
 use Rattle.record.specs.declared.numbers.Flags.{Flags}
 use Rattle.record.specs.declared.numbers.Numbers.{Numbers}
 use Rattle.std.specs.Prelude.{is_some, unwrap_or}
-use Rattle.coded.specs.Codes.{termination_code}
+use Rattle.coded.specs.RecordCodes.{termination_code}
 use Rattle.kinds.specs.Answers.{Check}
 
 -- what a variant lacks is 0

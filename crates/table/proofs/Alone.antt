@@ -1,17 +1,11 @@
 -- A fetch looks at the size of a table, its header and one record: tables that agree there give the same.
-use mathlib.Core.Path.{◌≡◌, refl, ap, ap₂, ◌∙◌}
-use mathlib.Core.List.{List, [], ◌∷◌}
-use Prim.Native.Nat.{ℕ, ◌<◌}
-use lib.ListN.{length, get_or}
-use native.Mathlib.Omega.{arith}
-use lib.Dec.{ltb}
+use Rattle.std.proofs.Common.{◌≡◌, refl, ap, ap₂, ◌∙◌, List, [], ◌∷◌, ℕ, ◌<◌, length, get_or, arith, ltb, None, Option, Some}
 use Rattle.kinds.specs.declared.refusals.Refusal.TheVariants.{SliceTooLong}
 use Rattle.kinds.specs.Outcomes.{rule, first_among, Outcome, after}
 use Rattle.record.specs.Numbers.{record_size}
 use Rattle.kinds.specs.Slices.{cut}
 use Rattle.table.specs.declared.Entry.{Entry}
 use Rattle.table.specs.Table.{header_size, record_place, header_of, fetched_under, fetched}
-use Rattle.std.specs.Prelude.{None, Option, Some}
 use Rattle.table.specs.declared.Header.{Header}
 
 -- under one header

@@ -1,8 +1,6 @@
 -- The theorem of `Alone` at tables that agree in just what it asks for, so that a stronger premise is refused here.
-use mathlib.Core.Path.{◌≡◌, refl, sym, ◌∙◌}
-use mathlib.Core.List.{List, [], ◌∷◌, ◌++◌}
-use Prim.Native.Nat.{ℕ, ◌<◌}
-use lib.ListN.{get_or, replicate, get_or-append}
+use Rattle.std.proofs.Common.{◌≡◌, refl, sym, ◌∙◌, List, [], ◌∷◌, ◌++◌, ℕ, ◌<◌, get_or, replicate}
+use lib.ListN.{get_or-append}
 use Rattle.table.specs.Table.{header_size, fetched}
 use Rattle.table.proofs.Alone.{that_record_alone}
 

@@ -1,15 +1,9 @@
 -- What a valid header says of its table.
-use mathlib.Core.Path.{◌≡◌, refl, sym, subst}
-use mathlib.Core.Bool.{Bool, true, false, cond, not, ◌||◌}
-use mathlib.Core.List.{List}
-use Prim.Native.Nat.{ℕ}
-use lib.ListN.{length}
-use lib.Dec.{eqb, ltb}
-use borrow.Author.Tests.{eqb-true, not-false}
+use Rattle.std.proofs.Common.{◌≡◌, refl, sym, subst, Bool, true, false, cond, not, ◌||◌, List, ℕ, length, eqb, ltb, eqb-true, None, Option, Some}
+use Rattle.std.proofs.lemmas.Bool.{not-false}
 use Rattle.kinds.proofs.Outcomes.{neither}
 use Rattle.table.specs.declared.Header.{Header}
 use Rattle.table.specs.Table.{header_size, is_marked, said_by, total_size, is_wrong, header_of}
-use Rattle.std.specs.Prelude.{None, Option, Some}
 
 -- the total size that a valid header says
 abbrev Total : ℕ → Option Header → Type 0

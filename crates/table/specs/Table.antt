@@ -10,8 +10,7 @@ use Rattle.record.specs.Parsing.{coded_in}
 use Rattle.record.specs.Recorded.{well_formed}
 use Rattle.table.specs.declared.Header.{Header}
 use Rattle.table.specs.declared.Entry.{Entry}
-use Rattle.std.specs.Prelude.{Err, None, Ok, Option, Result, Some}
-use Rattle.kinds.specs.declared.refusals.Refusal.{Refusal}
+use Rattle.std.specs.Prelude.{None, Option, Some}
 
 -- mark `DCT`, version 1 in 16 bits
 abbrev pub is_marked : List ℕ → Bool

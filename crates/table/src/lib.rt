@@ -42,10 +42,10 @@ fn is_marked(table: &[u8]) -> bool
     requires { header_size ≤ length table.now }
     ensures { result ≡ is_marked table.now }
 {
-    table[0] == 0x44 && table[1] == 0x43 && table[2] == 0x54 && read16(table, 3) == 1
+    table.starts_with(b"DCT") && read16(table, 3) == 1
 }
 
-// 45, of the header and the size of the whole.
+// 45, of the header and the size of the whole. Its bound and those below are asked again: only `fetch` calls these.
 fn read_header(table: &[u8]) -> Result<Header, Refusal>
     requires { length table.now ≤ 65535 }
     ensures { result ≡ ok_or (header_of table.now) Refusal.MalformedTable }
@@ -53,8 +53,8 @@ fn read_header(table: &[u8]) -> Result<Header, Refusal>
     if table.len() < HEADER_SIZE || !is_marked(table) {
         return Err(Refusal::MalformedTable);
     }
-    let count = read16(table, 5) as usize;
-    let store_len = ByteCount::of_number(read16(table, 7));
+    let count = usize::from(read16(table, 5));
+    let store_len = ByteCount::of_number(u32::from(read16(table, 7)));
     let store_bytes = store_len.bytes();
     if 1024 < count || STORE_LIMIT < store_bytes {
         return Err(Refusal::MalformedTable);

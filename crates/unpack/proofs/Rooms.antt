@@ -1,9 +1,5 @@
 -- The answer of a reading that finds something: with room for it, and without; and where neither 26 nor 27 is given.
-use mathlib.Core.Path.{◌≡◌}
-use mathlib.Core.List.{List, ◌++◌}
-use Prim.Native.Nat.{ℕ, ◌+◌, ◌*◌, ◌≤◌, ◌<◌}
-use lib.ListN.{length, drop}
-use borrow.Author.Tests.{lt-ltb, le-ltb}
+use Rattle.std.proofs.Common.{◌≡◌, List, ◌++◌, ℕ, ◌+◌, ◌*◌, ◌≤◌, ◌<◌, length, drop, lt-ltb, le-ltb}
 use Rattle.kinds.specs.declared.refusals.Refusal.TheVariants.{OutputLacksRoom}
 use Rattle.kinds.specs.Answers.{refused, read, passed}
 use Rattle.kinds.specs.Outcomes.{gives, answer}

@@ -1,10 +1,5 @@
 -- How many bytes are taken from a field's cut.
-use mathlib.Core.Path.{◌≡◌, sym, ap, ◌∙◌}
-use mathlib.Core.List.{List}
-use Prim.Native.Nat.{ℕ, ◌≤◌}
-use lib.ListN.{length, take}
-use lib.Seq.{length-take-le}
-use Rattle.std.specs.Prelude.{Option, Some, None}
+use Rattle.std.proofs.Common.{◌≡◌, sym, ap, ◌∙◌, List, ℕ, ◌≤◌, length, take, length-take-le, Option, Some, None}
 use Rattle.std.specs.Borrow.{Bor}
 use Rattle.kinds.specs.Types.{bytes_for}
 use Rattle.kinds.specs.declared.types.ByteOrder.{ByteOrder}

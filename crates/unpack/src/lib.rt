@@ -69,6 +69,7 @@ fn apply_condensed_mask_unpacking(
     Ok(counts)
 }
 
+// 26 and 27, and then the bits of the data. What it is told is no `Run` before that was tested, and no `Field`: the length may be of data bytes.
 #[tactic(auto, using(crate::proofs::Sizes::length_turned), unfolding(crate::specs::Found::read_answer))]
 pub fn unpack_data(
     bit_len: BitLength,

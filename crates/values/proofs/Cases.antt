@@ -1,15 +1,5 @@
 -- What a size that fits tells, and that what bits say fits an i64 where it is no refusal.
-use mathlib.Core.Path.{◌≡◌, refl}
-use mathlib.Core.Bool.{Bool, true, false, not}
-use mathlib.Core.List.{List, [], ◌∷◌}
-use Prim.Native.Nat.{ℕ, ◌^◌, ◌<◌}
-use native.Mathlib.Omega.{arith}
-use lib.ListN.{length}
-use lib.Dec.{eqb}
-use lib.IntN.{ℤ}
-use mir.Syntax.{w64}
-use mir.Val.{SFits}
-use borrow.Author.Tests.{eqb-true}
+use Rattle.std.proofs.Common.{◌≡◌, refl, Bool, true, false, not, List, [], ◌∷◌, ℕ, ◌^◌, ◌<◌, arith, length, eqb, ℤ, w64, SFits, eqb-true}
 use Rattle.kinds.specs.declared.refusals.Refusal.TheVariants.{DigitAboveNine}
 use Rattle.kinds.specs.Types.{bytes_for}
 use Rattle.kinds.specs.Outcomes.{rule, first_among, gives, after}

@@ -1,6 +1,7 @@
 // Signed and decimal values: a number read from the bytes of a field, and written to them. Every input gets an answer: nothing is required.
 #![tactic(auto)]
 
+mod codes; // codes.rt: an encoding told by its code
 mod sizes; // sizes.rt: how many bytes a value may have
 mod reading; // reading.rt: read
 mod writing; // writing.rt: write

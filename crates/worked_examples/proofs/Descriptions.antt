@@ -1,12 +1,10 @@
 -- Coded types by a few words, for the tables of examples.
-use mathlib.Core.Bool.{Bool, false}
-use Prim.Native.Nat.{ℕ}
+use Rattle.std.proofs.Common.{Bool, false, ℕ, None, Option, Some}
 use Rattle.kinds.specs.declared.types.DataType.{DataType}
 use Rattle.coded.specs.declared.variants.Termination.{Termination}
 use Rattle.coded.specs.declared.variants.DiagCodedTypeVariant.{DiagCodedTypeVariant}
 use Rattle.coded.specs.declared.variants.DiagCodedTypeVariant.TheVariants.{LeadingLengthInfo, MinMaxLength, StandardLength, ParamLengthInfo}
 use Rattle.calls.specs.Calls.{Description, by_type}
-use Rattle.std.specs.Prelude.{None, Option, Some}
 use Rattle.coded.specs.declared.variants.Place.{Place}
 
 -- a type, high-low or not, and a variant

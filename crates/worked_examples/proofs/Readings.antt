@@ -1,8 +1,5 @@
 -- The decode halves of the bench cases (RULES 13), and corners beside them, as one table that the checker computes.
-use mathlib.Core.Path.{◌≡◌, refl}
-use mathlib.Core.Bool.{true, false}
-use mathlib.Core.List.{List, [], ◌∷◌, ◌++◌}
-use Prim.Native.Nat.{ℕ}
+use Rattle.std.proofs.Common.{◌≡◌, refl, true, false, List, [], ◌∷◌, ◌++◌, ℕ}
 use lib.Count.{ones, ones_in}
 use Rattle.kinds.proofs.Examples.{Example, hold, ◌is◌}
 use Rattle.kinds.specs.declared.types.DataType.TheVariants.{UInt32, Float64, AsciiString, Unicode2String, ByteField}

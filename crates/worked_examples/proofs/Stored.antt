@@ -1,9 +1,5 @@
 -- Records and tables that are refused and those that are not, as one table that the checker computes.
-use mathlib.Core.Path.{◌≡◌, refl}
-use mathlib.Core.Bool.{true}
-use mathlib.Core.List.{List, [], ◌∷◌, ◌++◌}
-use Prim.Native.Nat.{ℕ}
-use lib.ListN.{set, replicate}
+use Rattle.std.proofs.Common.{◌≡◌, refl, true, List, [], ◌∷◌, ◌++◌, ℕ, set, replicate}
 use Rattle.kinds.proofs.Examples.{Example, hold, ◌is◌}
 use Rattle.kinds.specs.Answers.{number_in}
 use Rattle.kinds.specs.Outcomes.{Answer}

@@ -1,10 +1,6 @@
 -- Values that are read and written, as one table that the checker computes: all patterns of four bits, both ends of each range at 64 bits, and
 -- corners.
-use mathlib.Core.Path.{◌≡◌, refl}
-use mathlib.Core.Bool.{true}
-use mathlib.Core.List.{List, [], ◌∷◌, ◌++◌}
-use Prim.Native.Nat.{ℕ, suc, ◌-◌}
-use lib.IntN.{ℤ, pos, negsuc}
+use Rattle.std.proofs.Common.{◌≡◌, refl, true, List, [], ◌∷◌, ◌++◌, ℕ, suc, ◌-◌, ℤ, pos, negsuc}
 use Rattle.kinds.proofs.Examples.{Example, hold, ◌is◌}
 use Rattle.kinds.specs.Answers.{number_in}
 use Rattle.bits.specs.Bits.{bit, bit_at, number, packed}

@@ -1,9 +1,5 @@
 -- The halves of the bench cases (RULES 13) that write, and corners beside them, as one table that the checker computes.
-use mathlib.Core.Path.{◌≡◌, refl}
-use mathlib.Core.Bool.{true, false}
-use mathlib.Core.List.{List, [], ◌∷◌, ◌++◌}
-use Prim.Native.Nat.{ℕ}
-use lib.ListN.{replicate}
+use Rattle.std.proofs.Common.{◌≡◌, refl, true, false, List, [], ◌∷◌, ◌++◌, ℕ, replicate}
 use Rattle.kinds.proofs.Examples.{Example, hold, ◌is◌}
 use Rattle.kinds.specs.declared.types.DataType.TheVariants.{UInt32, Float32, AsciiString, Unicode2String, ByteField}
 use Rattle.kinds.specs.Outcomes.{Answer}

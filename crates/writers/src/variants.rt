@@ -1,91 +1,78 @@
 // Each variant's writing: what its source is, after what it refuses.
-ghost use Rattle.std.specs.Prelude.{◌≡◌, cond, ◌^◌, ◌<◌, ◌≤◌};
+ghost use Rattle.std.specs.Prelude.{◌≡◌, cond, ◌≤◌};
+ghost use Rattle.kinds.specs.Types.{is_unicode_type};
 ghost use Rattle.masks.specs.Mask.{no_mask, mask_of};
 ghost use Rattle.pack.specs.Source.{bytes_source, terminated};
-ghost use Rattle.pack.specs.CodePacking.{packed_source};
-ghost use Rattle.kinds.specs.Answers.{report_of_writing};
-ghost use Rattle.kinds.specs.Outcomes.{answer};
-ghost use Rattle.payload.specs.Payload.{write_answer};
-ghost use Rattle.payload.specs.Held.{held, SameSlice};
+ghost use Rattle.pack.specs.CodePacking.{packed_source, source_of};
+ghost use Rattle.payload.specs.CodeHeld.{held, Writes};
 ghost use Rattle.payload.specs.Writing.{writing};
 ghost use Rattle.writers.specs.Shapes.{standard_encoded, leading_encoded, min_max_encoded, param_encoded};
 
 use coded::Termination;
-use kinds::{BitLength, ByteCount, ByteOrder, DataType, Failure, Lent, Position, Refusal};
+use field::Field;
+use kinds::{BitLength, ByteCount, ByteOrder, Failure, Lent, Position, Refusal};
 use masks::Mask;
-use pack::{Packing, Source};
+use pack::{PackedData, Source};
 use payload::Payload;
 
-// The mask and the input are lent for one lifetime, since one source holds both.
+// The field's mask and the input are lent for one lifetime, since one source holds both.
 #[tactic(auto, using(crate::proofs::Shown::standard_shown))]
 pub fn encode_standard_len<'a>(
-    base_datatype: DataType,
+    field: Field<'a>,
     bit_len: BitLength,
-    described: Mask<'a>,
     input: Lent<'a>,
-    byte_order: ByteOrder,
     payload: &mut Payload,
     at: Position,
 ) -> Result<(), Failure>
-    ensures same_slice { SameSlice payload.old payload.new }
-    ensures value { answer (report_of_writing result) (held payload.new) ≡ write_answer (held payload.old) (standard_encoded byte_order input.entry.bytes.now (held payload.old) at.byte_pos at.bit_pos base_datatype bit_len.0 (mask_of described.entry)) }
+    ensures { Writes result payload.old payload.new (standard_encoded field.entry.byte_order input.entry.bytes.now (held payload.old) at.byte_pos at.bit_pos field.entry.base_datatype bit_len.0 (mask_of field.entry.mask)) }
 {
-    lengths::validate_standard(base_datatype, bit_len, described)?;
-    let mask = lengths::effective(described);
+    let base_datatype = field.base_datatype;
+    lengths::validate_standard(base_datatype, bit_len, field.mask)?;
+    let mask = lengths::effective(field.mask);
     let given = ByteCount(input.bytes.len());
     let packing = pack::pack_data(bit_len, mask, given, base_datatype.is_byte_type());
     let data = Lent {
         bytes: &input.bytes[..packing.data_len.bytes()],
     };
-    let source = Source {
-        packing,
-        data,
-        mask,
-    };
-    payload::write_source(source, byte_order, payload, at)
+    let packed = PackedData { packing, data };
+    let source = Source { packed, mask };
+    payload.write_source(source, field.byte_order, at)
 }
 
 // Whole bytes have no mask.
-fn write_bytes(
-    packing: Packing,
-    input: Lent,
-    byte_order: ByteOrder,
-    payload: &mut Payload,
-    at: Position,
-) -> Result<(), Failure>
-    requires tail_len_bound { packing.tail_len.0 < 2 ^ 32 }
-    ensures same_slice { SameSlice payload.old payload.new }
-    ensures value { answer (report_of_writing result) (held payload.new) ≡ write_answer (held payload.old) (writing byte_order (packed_source packing no_mask input.entry.bytes.now) (held payload.old) at.byte_pos at.bit_pos) }
+fn unmasked<'a>(packed: PackedData<'a>) -> Source<'a>
+    ensures { source_of result ≡ packed_source packed.entry.packing no_mask packed.entry.«data».bytes.now }
 {
-    let source = Source {
-        packing,
-        data: input,
+    Source {
+        packed,
         mask: Mask::Absent,
-    };
-    payload::write_source(source, byte_order, payload, at)
+    }
 }
 
 // The length field, big-endian, and then the input.
 #[tactic(auto, using(crate::proofs::Shown::leading_shown))]
 pub fn encode_leading_length(
+    field: Field,
     bit_len: BitLength,
     input: Lent,
-    byte_order: ByteOrder,
     payload: &mut Payload,
     at: Position,
 ) -> Result<(), Failure>
-    ensures same_slice { SameSlice payload.old payload.new }
-    ensures value { answer (report_of_writing result) (held payload.new) ≡ write_answer (held payload.old) (leading_encoded byte_order input.entry.bytes.now (held payload.old) at.byte_pos at.bit_pos bit_len.0) }
+    ensures { Writes result payload.old payload.new (leading_encoded field.entry.byte_order input.entry.bytes.now (held payload.old) at.byte_pos at.bit_pos bit_len.0) }
 {
     let count = input.bytes.len();
     let data_len = ByteCount(count);
     lengths::validate_leading_length(bit_len, data_len)?;
     let total = ByteCount(bit_len.byte_count().bytes() + count);
     let packing = pack::frame(total, count, data_len, 0, ByteCount(0));
-    write_bytes(packing, input, byte_order, payload, at)
+    let packed = PackedData {
+        packing,
+        data: input,
+    };
+    payload.write_source(unmasked(packed), field.byte_order, at)
 }
 
-// The input, and then so many bytes of a terminator.
+// The input, and then so many bytes of a terminator. Six parameters: of a field it takes the order alone, so that it says of nothing else.
 #[tactic(auto, using(crate::proofs::Shown::terminated_shown))]
 fn write_terminated(
     tail: u8,
@@ -96,13 +83,16 @@ fn write_terminated(
     at: Position,
 ) -> Result<(), Failure>
     requires tail_len_bound { tail_len.0 ≤ 2 }
-    ensures same_slice { SameSlice payload.old payload.new }
-    ensures value { answer (report_of_writing result) (held payload.new) ≡ write_answer (held payload.old) (writing byte_order (bytes_source (terminated input.entry.bytes.now tail_len.0 tail)) (held payload.old) at.byte_pos at.bit_pos) }
+    ensures { Writes result payload.old payload.new (writing byte_order (bytes_source (terminated input.entry.bytes.now tail_len.0 tail)) (held payload.old) at.byte_pos at.bit_pos) }
 {
     let data_len = ByteCount(input.bytes.len());
     let total = ByteCount(data_len.bytes() + tail_len.bytes());
     let packing = pack::frame(total, 0, data_len, tail, tail_len);
-    write_bytes(packing, input, byte_order, payload, at)
+    let packed = PackedData {
+        packing,
+        data: input,
+    };
+    payload.write_source(unmasked(packed), byte_order, at)
 }
 
 // A terminator is as long as a character.
@@ -113,16 +103,15 @@ fn terminator_len(is_unicode: bool) -> ByteCount
 }
 
 pub fn encode_min_max_len(
-    is_unicode: bool,
+    field: Field,
     termination: Termination,
     input: Lent,
-    byte_order: ByteOrder,
     payload: &mut Payload,
     at: Position,
 ) -> Result<(), Failure>
-    ensures same_slice { SameSlice payload.old payload.new }
-    ensures value { answer (report_of_writing result) (held payload.new) ≡ write_answer (held payload.old) (min_max_encoded byte_order input.entry.bytes.now (held payload.old) at.byte_pos at.bit_pos is_unicode termination) }
+    ensures { Writes result payload.old payload.new (min_max_encoded field.entry.byte_order input.entry.bytes.now (held payload.old) at.byte_pos at.bit_pos (is_unicode_type field.entry.base_datatype) termination) }
 {
+    let is_unicode = field.base_datatype.is_unicode();
     let (tail, tail_len) = match termination {
         Termination::EndOfPdu if input.bytes.is_empty() => {
             return Err(Failure::Refused(Refusal::EmptyUntilEndOfPdu));
@@ -131,20 +120,19 @@ pub fn encode_min_max_len(
         Termination::Zero => (0, terminator_len(is_unicode)),
         Termination::HexFF => (0xFF, terminator_len(is_unicode)),
     };
-    write_terminated(tail, tail_len, input, byte_order, payload, at)
+    write_terminated(tail, tail_len, input, field.byte_order, payload, at)
 }
 
 pub fn encode_param_len(
+    field: Field,
     input: Lent,
-    byte_order: ByteOrder,
     payload: &mut Payload,
     at: Position,
 ) -> Result<(), Failure>
-    ensures same_slice { SameSlice payload.old payload.new }
-    ensures value { answer (report_of_writing result) (held payload.new) ≡ write_answer (held payload.old) (param_encoded byte_order input.entry.bytes.now (held payload.old) at.byte_pos at.bit_pos) }
+    ensures { Writes result payload.old payload.new (param_encoded field.entry.byte_order input.entry.bytes.now (held payload.old) at.byte_pos at.bit_pos) }
 {
     if input.bytes.is_empty() {
         return Ok(());
     }
-    write_terminated(0, ByteCount(0), input, byte_order, payload, at)
+    write_terminated(0, ByteCount(0), input, field.byte_order, payload, at)
 }

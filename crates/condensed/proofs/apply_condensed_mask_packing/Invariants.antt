@@ -1,6 +1,5 @@
 -- `condensed::apply_condensed_mask_packing` meets its contract. The loop's invariant: the first bits of the source are ORed in.
-use Prim.Native.Nat.{◌≤◌}
-use mathlib.Core.Path.{◌≡◌}
+use Rattle.std.proofs.Common.{◌≤◌, ◌≡◌}
 use Rattle.bits.specs.Bits.{bit_at}
 use Rattle.bits.specs.Moves.{injected}
 use Rattle.condensed.specs.Condensed.{ones_below, replaced}

@@ -1,6 +1,5 @@
 -- `count_met_ones` meets its contract. The loop's invariant: the ones below place i are counted.
-use Prim.Native.Nat.{◌≤◌}
-use mathlib.Core.Path.{◌≡◌}
+use Rattle.std.proofs.Common.{◌≤◌, ◌≡◌}
 use Rattle.condensed.specs.Condensed.{front_bit, ones_below}
 use Rattle.condensed.proofs.count_met_ones.Given as goal
 

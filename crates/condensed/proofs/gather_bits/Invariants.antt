@@ -1,9 +1,7 @@
 -- `condensed::gather_bits` meets its contract. The loop's invariant: the result holds what is gathered of the first i bits.
-use Prim.Native.Nat.{◌≤◌}
-use mathlib.Core.Path.{◌≡◌}
-use lib.ListN.{length}
+use Rattle.std.proofs.Common.{◌≤◌, ◌≡◌, length}
 use Rattle.bits.specs.Bits.{packed}
-use Rattle.bits.specs.Runs.{bits_of_run}
+use Rattle.bits.specs.CodeRuns.{bits_of_run}
 use Rattle.condensed.specs.Condensed.{front_bit, gathered, bits_of}
 use Rattle.condensed.proofs.gather_bits.Given as goal
 

@@ -1,5 +1,5 @@
 -- `masks::apply_bit_mask` meets its contract. The loop's invariant: the first i bits are masked.
-use mathlib.Core.Path.{◌≡◌}
+use Rattle.std.proofs.Common.{◌≡◌}
 use Rattle.masks.specs.Plain.{masked}
 use Rattle.masks.proofs.plain.apply_bit_mask.Given as goal
 

@@ -1,6 +1,5 @@
 -- The loop's invariant: what is made, and what the digits that are left make, are the whole.
-use Prim.Native.Nat.{◌-◌, ◌^◌, ◌≤◌}
-use mathlib.Core.Path.{◌≡◌}
+use Rattle.std.proofs.Common.{◌-◌, ◌^◌, ◌≤◌, ◌≡◌}
 use Rattle.numerals.specs.Digits.{rebased}
 use Rattle.numerals.proofs.Rebased.{together}
 use Rattle.numerals.proofs.digits.rebase.Given as goal

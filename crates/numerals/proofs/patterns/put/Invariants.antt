@@ -1,10 +1,8 @@
--- The loop's invariant: the first j bytes are those of the number.
-use Prim.Native.Nat.{◌-◌, ◌≤◌}
-use mathlib.Core.Path.{◌≡◌}
-use lib.ListN.{length}
+-- The loop's invariant: the first bytes, as many as the index says, are those of the number.
+use Rattle.std.proofs.Common.{◌≤◌, ◌≡◌, length}
 use Rattle.numerals.proofs.Bytes.{written}
 use Rattle.numerals.proofs.patterns.put.Given as goal
 
-abbrev pub invariant-loop-byte : goal.invariant-loop-byte
-invariant-loop-byte l =
-    (l.byte-index ≤ length l.initial.bytes) × (l.behind ≡ length l.initial.bytes - l.byte-index) × (l.bytes ≡ written l.initial.bytes l.pattern l.byte-index)
+abbrev pub invariant-loop-index : goal.invariant-loop-index
+invariant-loop-index l =
+    (l.index ≤ length l.initial.bytes) × (l.index-end ≡ length l.initial.bytes) × (l.count ≡ length l.initial.bytes) × (l.bytes ≡ written l.initial.bytes l.pattern l.index)

@@ -1,7 +1,5 @@
 -- The loop's invariant: the pattern is what the first j bytes make.
-use Prim.Native.Nat.{◌≤◌}
-use mathlib.Core.Path.{◌≡◌}
-use lib.ListN.{length}
+use Rattle.std.proofs.Common.{◌≤◌, ◌≡◌, length}
 use Rattle.numerals.proofs.Bytes.{front}
 use Rattle.numerals.proofs.patterns.whole.Given as goal
 
