@@ -2,7 +2,7 @@
 use Rattle.std.proofs.Common.{◌≡◌, sym, ap, ◌∙◌, ⊎_elim, Bool, true, false, cond, List, ℕ, ◌+◌, ◌-◌, ◌*◌, ◌%◌, ◌≤◌, ◌<◌, max, arith, length, replicate, lt-ltb, eq-eqb, ne_eqb}
 use Rattle.kinds.proofs.Compare.{same}
 use Rattle.bits.specs.Bits.{bit_at, packed, update, or_bit}
-use Rattle.bits.specs.Moves.{first, from, raised, either, injected, within, overlaid}
+use Rattle.bits.specs.Moves.{first, raised, either, injected, within, overlaid}
 use Rattle.bits.proofs.Numbers.{Bits}
 use Rattle.bits.proofs.Bytes.{Bytes, bit_at_lt, bit_at-packed, length-packed, packed_ext, packed_zero, repack}
 use Rattle.bits.proofs.Moves.{bits_cond, bits_first, bits_raised, bits_either, first_in, first_out, first_other, raised_in, raised_ext, raised-zero, within_in, within_none, within_other}
@@ -33,13 +33,11 @@ or_bit_out clear xs i v h l =
 pub first_none : (f : ℕ → ℕ) (n : ℕ) → replicate n 0 ≡ packed n (first 0 f)
 first_none f n = sym (packed_zero n) ∙ packed_ext n (λ k. 0) (first 0 f) (λ k l. sym (first_out 0 f k (omega arith)))
 
-pub first_step : (xs ys : List ℕ) (n pos i : ℕ) → ys ≡ packed n (first i (from pos (bit_at xs)))
-    → or_bit false ys i (bit_at xs (pos + i)) ≡ packed n (first (i + 1) (from pos (bit_at xs)))
-first_step xs ys n pos i e =
-    let f : ℕ → ℕ = from pos (bit_at xs) in
+pub first_step : (f : ℕ → ℕ) (xs : List ℕ) (n i : ℕ) → Bits f → xs ≡ packed n (first i f) → or_bit false xs i (f i) ≡ packed n (first (i + 1) f)
+first_step f xs n i b e =
     let none : first i f i ≡ 0 = first_out i f i (omega arith) in
     let one : first (i + 1) f i ≡ f i = first_in (i + 1) f i (omega arith) in
-    or_bit_step false n (first i f) (first (i + 1) f) ys i (f i) (bits_first i f (λ j. bit_at_lt xs _)) (bit_at_lt xs _) e (first_other f i) (omega arith)
+    or_bit_step false n (first i f) (first (i + 1) f) xs i (f i) (bits_first i f b) (b i) e (first_other f i) (omega arith)
 
 -- ---- bits ORed in
 

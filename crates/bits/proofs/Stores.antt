@@ -1,11 +1,11 @@
 -- Stores of one byte as changes of one bit: what `bit_at` reads and `set_bit_checked` writes.
-use Rattle.std.proofs.Common.{◌≡◌, refl, sym, ap, ap₂, ◌∙◌, ⊎_elim, Bool, true, false, cond, List, [], ◌∷◌, ℕ, zero, suc, ◌-◌, ◌*◌, ◌/◌, ◌%◌, ◌^◌, ◌<◌, min, max, arith, mod-lt, zero-lt-suc, length, get_or, set, length-set, get_or-set_same, get_or-set_other, eqb, bit_or, bit_and, shl_exact, eq-eqb, ne_eqb}
+use Rattle.std.proofs.Common.{◌≡◌, refl, sym, ap, ap₂, ◌∙◌, ⊎_elim, Bool, true, false, cond, List, [], ◌∷◌, ℕ, zero, suc, ◌-◌, ◌*◌, ◌/◌, ◌%◌, ◌^◌, ◌<◌, min, max, arith, mod-lt, zero-lt-suc, length, get_or, set, length-set, get_or-set_same, get_or-set_other, eqb, bit_or, bit_and, shl_exact, lt-ltb, eq-eqb, ne_eqb}
 use Rattle.std.proofs.lemmas.Nat.{or_lt, and_mask}
 use Rattle.kinds.specs.declared.types.ByteOrder.{ByteOrder}
 use Rattle.order.specs.Order.{ordered}
 use Rattle.order.proofs.Index.{length-ordered}
 use Rattle.kinds.proofs.Compare.{below, same}
-use Rattle.bits.specs.Bits.{bit, bit_at, packed, place, update, or_bit}
+use Rattle.bits.specs.Bits.{bit, bit_at, packed, place, update, or_bit, or_bit_checked}
 use Rattle.bits.proofs.Numbers.{bit-lt, bit-or, bit-and, bit_not, bit_shl}
 use Rattle.bits.proofs.Bytes.{Bytes, bit_at_in, bit_at_out, packed_ext, repack}
 
@@ -120,3 +120,10 @@ set_or_bit clear xs j o b v h l lo lb e =
     (or_lt 8 b _ lb (low_at_lt v o))
     (λ k lk. bit-or b ((bit_and v 1 * 2 ^ o) % 256) k ∙ ap₂ max (rw e (cleared clear (get_or xs j 0) o k lo lk)) (bit_low_at v o k lo)
     ∙ or_cases (eqb k o) (cond clear 0 (bit (get_or xs j 0) o)) (bit (get_or xs j 0) k) (v % 2)))
+
+-- `set_bit_checked` at the byte and the offset of bit i
+pub set-bit_at : (clear : Bool) (xs : List ℕ) (i v : ℕ) → i < 8 * length xs
+    → or_bit_checked clear xs (length xs - i / 8 - 1) (i % 8) v ≡ or_bit clear xs i v
+set-bit_at clear xs i v h =
+    let at : place (length xs) (length xs - i / 8 - 1) (i % 8) ≡ i = omega arith in
+    rw (lt-ltb (length xs - i / 8 - 1) (length xs) (omega arith), at)

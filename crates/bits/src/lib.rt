@@ -3,14 +3,14 @@
 
 mod run; // run.rt: a run of bits of bytes that are lent
 
-ghost use Rattle.std.specs.Prelude.{◌≡◌, ◌+◌, ◌*◌, ◌%◌, ◌<◌, ◌≤◌, length, replicate, ltb};
+ghost use Rattle.std.specs.Prelude.{◌≡◌, ◌+◌, ◌*◌, ◌%◌, ◌^◌, ◌<◌, ◌≤◌, length, replicate, ltb};
 ghost use Rattle.kinds.specs.Types.{bytes_for};
 ghost use Rattle.order.specs.Order.{ordered};
-ghost use Rattle.bits.specs.Bits.{bit, bit_at, or_bit, or_bit_checked};
-ghost use Rattle.bits.specs.Moves.{extracted};
+ghost use Rattle.bits.specs.Bits.{bit, bit_at, number, or_bit, or_bit_checked};
+ghost use Rattle.bits.specs.Moves.{first, from, extracted};
 ghost use Rattle.bits.specs.CodeRuns.{bits_of_run, extracted_run};
 
-use kinds::ByteOrder;
+use kinds::{ByteCount, ByteOrder};
 pub use run::Run;
 
 // Bit i of bytes, by the byte that it is in.
@@ -92,16 +92,43 @@ impl<'a> Run<'a> {
     {
         ordered_bit_at(self.data.bytes, self.byte_order, self.bit_pos + i)
     }
+
+    // The byte of the ordered form that has so many behind it, and 0 where there is none.
+    #[tactic(auto, using(crate::proofs::Windows::eight_there, crate::proofs::Windows::eight_none))]
+    fn byte_before(self, behind: usize) -> usize
+        ensures value { result ≡ number 8 (from (8 * behind) (bit_at (ordered self.entry.byte_order self.entry.«data».bytes.now))) }
+        ensures bound { result < 256 }
+    {
+        let bytes = self.data.bytes;
+        if behind >= bytes.len() {
+            return 0;
+        }
+        let at = bytes.len() - 1 - behind;
+        usize::from(order::ordered_byte(bytes, self.byte_order, at))
+    }
+
+    // Eight bits from bit i on as one byte, with zeros past the end. They lie in two bytes, which are read once.
+    #[tactic(auto, using(crate::proofs::Windows::byte_made, crate::proofs::Windows::byte_fits))]
+    fn byte_from(self, i: usize) -> u8
+        requires { i < self.bit_len.0 }
+        ensures { result ≡ number 8 (from i (first self.entry.bit_len.0 (bits_of_run self.entry))) }
+    {
+        let start = self.bit_pos + i;
+        let behind = kinds::byte_from_last(start);
+        let two = self.byte_before(behind) + 256 * self.byte_before(behind + 1);
+        let count = (self.bit_len.bits() - i).min(8);
+        ((two >> kinds::bit_in_byte(start)) % (1 << count)) as u8
+    }
 }
 
-// Takes a run of bits out, right-aligned. A loop over an index, as every loop over bits: bytes hold no bits that a chain could go over.
-#[tactic(auto, using(crate::proofs::Steps::first_none, crate::proofs::Steps::first_step), unfolding(crate::specs::Moves::extracted))]
+// Takes a run of bits out, right-aligned, byte by byte: bit by bit it would take longer than the Rust in some builds.
+#[tactic(auto, using(crate::proofs::Written::written_laws), unfolding(crate::specs::Moves::extracted))]
 pub fn extract_bits(run: Run, result_bytes: &mut [u8])
     requires { length result_bytes.old ≡ bytes_for run.bit_len.0 }
     ensures { result_bytes.new ≡ extracted_run run.entry }
 {
-    zero(result_bytes);
-    for i in 0..run.bit_len.bits() {
-        set_bit_at(result_bytes, i, run.bit_at(i), false);
+    let count = result_bytes.len();
+    for (index, byte) in result_bytes.iter_mut().enumerate() {
+        *byte = run.byte_from(ByteCount(count - 1 - index).bit_end());
     }
 }

@@ -40,3 +40,15 @@ impl<'a> Description for &'a [u8] {
         record::coded_by_record(self, sizes)
     }
 }
+
+// The same of a record that stands in an array.
+impl<'a, const N: usize> Description for &'a [u8; N] {
+    ghost use Rattle.calls.specs.Calls.{by_record};
+
+    ghost says = { λ bytes. by_record bytes.now };
+
+    fn coded(self, sizes: Sizes) -> Result<DiagCodedType, Refusal> {
+        let bytes: &[u8] = self;
+        bytes.coded(sizes)
+    }
+}

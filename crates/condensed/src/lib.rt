@@ -10,10 +10,22 @@ ghost use Rattle.bits.specs.Moves.{from, injected};
 ghost use Rattle.condensed.specs.Condensed.{front_bit, ones_below, picked, bits_of, ones_of, condensed_count, condensed_bytes, replacement, replaced};
 
 use bits::Run;
-use kinds::{BitLength, ByteCount, ByteOrder, Counts, Lent};
+use kinds::{BitLength, ByteCount, ByteOrder, Counts, Lent, SLICE_LIMIT};
 
-// How many ones the mask has, all of its bytes counted, and no more than so many. A loop, since a sum could wrap: a mask has any length.
-pub fn count_mask_ones(mask: &[u8], most: BitLength) -> BitLength
+// How many ones the bytes have. They are so few that the sum does not wrap.
+fn ones_in(bytes: &[u8]) -> u32
+    requires { length bytes.now ≤ 65535 }
+    ensures { result ≡ ones_of bytes.now }
+{
+    let mut total: u32 = 0;
+    for byte in bytes {
+        total += byte.count_ones();
+    }
+    total
+}
+
+// How many ones a mask of any length has, and no more than so many, since a sum of all could wrap.
+fn ones_up_to(mask: &[u8], most: BitLength) -> BitLength
     ensures { result.0 ≡ min most.0 (ones_of mask.now) }
 {
     let mut count = 0;
@@ -21,6 +33,17 @@ pub fn count_mask_ones(mask: &[u8], most: BitLength) -> BitLength
         count = most.bits().min(count + byte.count_ones() as usize);
     }
     BitLength(count as u32)
+}
+
+// How many ones the mask has, all of its bytes counted, and no more than so many. What a call is lent is short enough for the plain sum,
+// which is the faster one.
+pub fn count_mask_ones(mask: &[u8], most: BitLength) -> BitLength
+    ensures { result.0 ≡ min most.0 (ones_of mask.now) }
+{
+    if SLICE_LIMIT < mask.len() {
+        return ones_up_to(mask, most);
+    }
+    BitLength(most.number().min(ones_in(mask)))
 }
 
 // Bit i of a mask that is indexed from its front, as it meets so many bytes.

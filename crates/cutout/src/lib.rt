@@ -52,13 +52,15 @@ fn clear_bits(bit_len: BitLength, mask: Mask, bit_pos: usize, cut_out: &mut [u8]
     requires bit_pos_bound { bit_pos ≤ 7 }
     ensures { cut_out.new ≡ cleared (mask_of mask.entry) bit_len.0 bit_pos cut_out.old }
 {
-    let bytes = match mask {
-        // a short mask repeats its first byte: all ones
-        Mask::Absent => b"\xFF",
-        Mask::Plain(plain) => plain,
-        Mask::Condensed(condensed) => condensed,
-    };
-    masks::apply_bit_mask(cut_out, bytes, Kept::UnderZeros, bit_len, bit_pos);
+    match mask {
+        // a short mask repeats its first byte: all ones. A call of its own, since more is made of a mask that the compiler knows
+        Mask::Absent => {
+            masks::apply_bit_mask(cut_out, b"\xFF", Kept::UnderZeros, bit_len, bit_pos)
+        }
+        Mask::Plain(mask) | Mask::Condensed(mask) => {
+            masks::apply_bit_mask(cut_out, mask, Kept::UnderZeros, bit_len, bit_pos)
+        }
+    }
 }
 
 pub fn clear_cut_out(

@@ -1,5 +1,5 @@
 -- A length field as a number, and how many data bytes it says.
-use Rattle.std.proofs.Common.{◌≡◌, refl, sym, ap, ◌∙◌, ⊎_elim, true, true≢false, List, [], ◌∷◌, ℕ, zero, suc, ◌+◌, ◌-◌, ◌*◌, ◌%◌, ◌^◌, ◌≤◌, ◌<◌, arith, add-one, mod-eq_of_lt, length, get_or, pow-add, pow_mono, lt-ltb, le-ltb, eq-eqb, ne_eqb, None, Some, Ok, Err}
+use Rattle.std.proofs.Common.{◌≡◌, refl, sym, ap, ◌∙◌, ⊎_elim, true, true≢false, List, [], ◌∷◌, ℕ, zero, suc, ◌+◌, ◌-◌, ◌*◌, ◌%◌, ◌^◌, ◌≤◌, ◌<◌, arith, add-one, mod-eq_of_lt, length, get_or, pow-add, pow_mono, shl_exact, lt-ltb, le-ltb, eq-eqb, ne_eqb, None, Some, Ok, Err}
 use Rattle.std.specs.Int.{w16, w32, from_be_bytes}
 use Rattle.kinds.specs.declared.refusals.Refusal.TheVariants.{ZeroBitLength, LengthFieldTooWide}
 use Rattle.kinds.specs.declared.types.DataType.{DataType}
@@ -46,6 +46,9 @@ number_bytes : (xs : List ℕ) → Bytes xs → number (8 * length xs) (bit_at x
 number_bytes xs h = number-packed (length xs) (bit_at xs) ∙ ap (λ (l : List ℕ). big_endian (λ j. get_or l j 0) (length xs)) (repack xs h)
 
 -- ---- the lowest bits of a machine word
+
+pub shifted_one : (k : ℕ) → k < 64 → (1 * 2 ^ k) % 2 ^ 64 ≡ 2 ^ k
+shifted_one k h = shl_exact {a = 1} 1 k 64 (omega arith) (omega arith) ∙ omega arith
 
 pub all_bits : (x k : ℕ) → x < 2 ^ 64 → 64 ≤ k → x ≡ x % 2 ^ k
 all_bits x k hx hk =

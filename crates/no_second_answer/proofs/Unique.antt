@@ -1,7 +1,7 @@
 -- No second answer fits the contract of a function that users call: what an answer shows decides it. `Learnt` is what a caller learns of the
 -- contract, which the toolchain reads from the function's clauses and proves of them: of the lifetimes, of the arguments, of a result, and of
 -- the parameters at exit. So a contract that leaves something open breaks its theorem here.
-use Rattle.std.proofs.Common.{◌≡◌, refl, sym, ap, ◌∙◌, cond, true≢false, eq-eqb, List, ◌∷◌, ℕ, get_or, drop, eqb, ℤ, Result, Ok, Err, IfOk}
+use Rattle.std.proofs.Common.{◌≡◌, refl, sym, ap, ◌∙◌, cond, true≢false, eq-eqb, List, ◌∷◌, ℕ, get_or, drop, eqb, ℤ, Option, Some, None, Result, Ok, Err, IfOk}
 use Rattle.std.specs.Borrow.{Bor}
 use Rattle.kinds.specs.declared.refusals.Refusal.{Refusal}
 use Rattle.kinds.specs.declared.refusals.Refusal.TheVariants.{MalformedTable}
@@ -11,7 +11,8 @@ use Rattle.kinds.specs.Slices.{place_behind}
 use Rattle.kinds.specs.Outcomes.{Outcome, gives, lacks, refuses, outcome_of, Answer, answer}
 use Rattle.kinds.proofs.Rows.{refusal_of, never_0, refusal_told}
 use Rattle.kinds.proofs.Reports.{check_of, check_told, failure_of, failure_told, failure_seen}
-use Rattle.parts.proofs.OneAnswer.{Same, one_part}
+use Rattle.parts.specs.Part.{place_or_start}
+use Rattle.parts.proofs.OneAnswer.{One, one_part}
 use Rattle.calls.specs.Calls.{by_type, name_answer, outcome_of_name, name_start}
 use Rattle.payload.specs.Payload.{Payload, payload_of}
 use Rattle.kinds.proofs.refusals.Refusal.number.Reads as refusal-number
@@ -112,11 +113,32 @@ SameName (Err r) (Err s) = r ≡ s
 no_refusal : (r : Refusal) → number_of r ≡ 0 → ⊥
 no_refusal r e = true≢false (sym (eq-eqb (number_of r) 0 e) ∙ never_0 r)
 
-one_name : (place : ℕ × ℕ) (r r' : Result (Bor (List ℕ)) Refusal) → name_answer (outcome_of_name r) ≡ name_answer (outcome_of_name r') → IfOk r (λ n. n.ref_ptr ≡ place) → IfOk r' (λ n. n.ref_ptr ≡ place) → SameName r r'
-one_name place (Ok a) (Ok b) e l l' = (ap (λ (s : Answer (List ℕ)). s.left) e, l ∙ sym l')
-one_name place (Ok a) (Err r) e l l' = no_refusal r (sym (ap (λ (s : Answer (List ℕ)). number_in s.report) e))
-one_name place (Err r) (Ok b) e l l' = no_refusal r (ap (λ (s : Answer (List ℕ)). number_in s.report) e)
-one_name place (Err r) (Err s) e l l' = sym (refusal_told r) ∙ ap (λ (a : Answer (List ℕ)). refusal_of (number_in a.report)) e ∙ refusal_told s
+same_name : (place : ℕ × ℕ) (r r' : Result (Bor (List ℕ)) Refusal) → name_answer (outcome_of_name r) ≡ name_answer (outcome_of_name r') → IfOk r (λ n. n.ref_ptr ≡ place) → IfOk r' (λ n. n.ref_ptr ≡ place) → SameName r r'
+same_name place (Ok a) (Ok b) e l l' = (ap (λ (s : Answer (List ℕ)). s.left) e, l ∙ sym l')
+same_name place (Ok a) (Err r) e l l' = no_refusal r (sym (ap (λ (s : Answer (List ℕ)). number_in s.report) e))
+same_name place (Err r) (Ok b) e l l' = no_refusal r (ap (λ (s : Answer (List ℕ)). number_in s.report) e)
+same_name place (Err r) (Err s) e l l' = sym (refusal_told r) ∙ ap (λ (a : Answer (List ℕ)). refusal_of (number_in a.report)) e ∙ refusal_told s
+
+-- the name that is handed back, if there is one
+abbrev pub given_name : Result (Bor (List ℕ)) Refusal → Option (Bor (List ℕ))
+given_name (Ok name) = Some name
+given_name (Err refusal) = None
+
+-- two answers of one store: number and bytes are the same, the refusal or the name is, and so is the place, which is that of the empty part where
+-- there is a refusal
+abbrev pub OneName : Bor (List ℕ) → Result (Bor (List ℕ)) Refusal → Result (Bor (List ℕ)) Refusal → Type 0
+OneName store r r' =
+    (name_answer (outcome_of_name r) ≡ name_answer (outcome_of_name r')) × SameName r r' × (place_or_start (given_name r) store ≡ place_or_start (given_name r') store)
+
+one_start : (store : Bor (List ℕ)) (r r' : Result (Bor (List ℕ)) Refusal) → SameName r r' → place_or_start (given_name r) store ≡ place_or_start (given_name r') store
+one_start store (Ok a) (Ok b) s = s.1
+one_start store (Ok a) (Err q) s = absurd s
+one_start store (Err q) (Ok b) s = absurd s
+one_start store (Err q) (Err w) s = refl
+
+one_name : (store : Bor (List ℕ)) (place : ℕ × ℕ) (r r' : Result (Bor (List ℕ)) Refusal) → name_answer (outcome_of_name r) ≡ name_answer (outcome_of_name r') → IfOk r (λ n. n.ref_ptr ≡ place) → IfOk r' (λ n. n.ref_ptr ≡ place) → OneName store r r'
+one_name store place r r' e l l' =
+    let same = same_name place r r' e l l' in (e, same, one_start store r r' same)
 
 -- ---- what users call, one function after the other
 
@@ -132,13 +154,13 @@ encode_one T L G D κs args r r' e e' h h' = one_reported report_of_writing writ
 pub clear_one : (T : _) (L : _) (G : _) (D : _) (κs : _) (args : _) (r r' : _) (e e' : _) → clear.Learnt T L G D κs args r e → clear.Learnt T L G D κs args r' e' → ◌≡◌ {A = Writing × Payload} (r, payload_of e.1.1.0.now args.1.1.1.0) (r', payload_of e'.1.1.0.now args.1.1.1.0)
 clear_one T L G D κs args r r' e e' h h' = one_reported report_of_writing writing_of writing_told (r, payload_of e.1.1.0.now args.1.1.1.0) (r', payload_of e'.1.1.0.now args.1.1.1.0) h h'
 
--- a runtime read: the failure, or the bytes of the part and where it lies
-pub runtime_read_one : (T : _) (L : _) (G : _) (D : _) (κs : _) (args : _) (r r' : _) (e e' : _) → runtime-read.Learnt T L G D κs args r e → runtime-read.Learnt T L G D κs args r' e' → Same r r'
+-- a runtime read: number, report, bytes and place
+pub runtime_read_one : (T : _) (L : _) (G : _) (D : _) (κs : _) (args : _) (r r' : _) (e e' : _) → runtime-read.Learnt T L G D κs args r e → runtime-read.Learnt T L G D κs args r' e' → One args.1.1.0 r r'
 runtime_read_one T L G D κs args r r' e e' h h' = one_part args.1.1.1.0 args.1.1.0 r r' (h.0 ∙ sym h'.0) h.1 h'.1
 
--- a key name: the refusal, or the bytes of the name and where it lies
-pub length_key_name_one : (κs : _) (args : _) (r r' : _) (e e' : _) → length-key-name.Learnt κs args r e → length-key-name.Learnt κs args r' e' → SameName r r'
-length_key_name_one κs args r r' e e' h h' = one_name (place_behind (name_start (by_type args.0) args.1.0.now) args.1.0.ref_ptr) r r' (h.0 ∙ sym h'.0) h.1 h'.1
+-- a key name: number, bytes and place
+pub length_key_name_one : (κs : _) (args : _) (r r' : _) (e e' : _) → length-key-name.Learnt κs args r e → length-key-name.Learnt κs args r' e' → OneName args.1.0 r r'
+length_key_name_one κs args r r' e e' h h' = one_name args.1.0 (place_behind (name_start (by_type args.0) args.1.0.now) args.1.0.ref_ptr) r r' (h.0 ∙ sym h'.0) h.1 h'.1
 
 -- what is made
 pub new_limits_one : (κs : _) (args : _) (r r' : _) (e e' : _) → new_limits.Learnt κs args r e → new_limits.Learnt κs args r' e' → r ≡ r'

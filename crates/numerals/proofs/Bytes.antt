@@ -1,13 +1,14 @@
 -- Bytes as one number, and a number as bytes, one byte after the other.
-use Rattle.std.proofs.Common.{◌≡◌, refl, sym, ap, ap₂, ◌∙◌, List, ◌++◌, append-nil, ℕ, zero, suc, ◌+◌, ◌-◌, ◌*◌, ◌/◌, ◌%◌, ◌^◌, ◌≤◌, ◌<◌, arith, zero-add, suc-mul, add-one, length, get_or, set, drop, drop_of_length-le, take_all, bit_and, pow_pos, pow_mono, pow-add, shr-shr}
+use Rattle.std.proofs.Common.{◌≡◌, sym, ap, ap₂, ◌∙◌, List, ℕ, zero, suc, ◌+◌, ◌-◌, ◌*◌, ◌/◌, ◌%◌, ◌^◌, ◌≤◌, ◌<◌, arith, suc-mul, length, get_or, set, bit_and, pow_pos, pow_mono, pow-add, shr-shr}
 use Rattle.std.proofs.lemmas.Nat.{and_mask, mod-pow-add}
 use native.Mathlib.Nat.{mod-one, div-eq_of_lt-le}
-use lib.Seq.{paste, paste-suc}
 use Rattle.kinds.specs.Types.{bytes_for}
 use Rattle.bits.specs.Bits.{bit, bit_at, number, packed}
 use Rattle.bits.specs.Moves.{from}
 use Rattle.bits.proofs.Numbers.{bit-zero, bit-suc, number_ext, number_lt, number_bits, number-add, number_lowest}
-use Rattle.bits.proofs.Bytes.{Bytes, bit_at_in, bit_at_lt, length-packed}
+use Rattle.bits.proofs.Bytes.{Bytes, bit_at_in, bit_at_lt}
+use Rattle.bits.proofs.Written as bytewise
+use Rattle.bits.proofs.Written.{byte_of}
 
 -- ---- bytes as a number
 
@@ -75,13 +76,6 @@ number-mod (suc n) x =
     ap₂ (λ (a b : ℕ). a + 2 * b) (bit-zero x) (number_ext n (λ k. bit x (suc k)) (bit (x / 2)) (λ k l. bit-suc x k) ∙ number-mod n (x / 2))
     ∙ omega arith
 
-byte_of : (n : ℕ) (f : ℕ → ℕ) (j : ℕ) → j < n → get_or (packed n f) j 0 ≡ number 8 (λ k. f (8 * (n - 1 - j) + k))
-unfolding packed
-byte_of zero f j l = omega arith
-byte_of (suc n) f zero l = number_ext 8 (λ k. f (8 * n + k)) (λ k. f (8 * (suc n - 1 - 0) + k)) (λ k lk. ap f (omega arith))
-byte_of (suc n) f (suc j) l =
-    byte_of n f j (omega arith) ∙ number_ext 8 (λ k. f (8 * (n - 1 - j) + k)) (λ k. f (8 * (suc n - 1 - suc j) + k)) (λ k lk. ap f (omega arith))
-
 bit_behind : (x i k : ℕ) → bit x (i + k) ≡ bit (x / 2 ^ i) k
 unfolding bit
 bit_behind x i k = ap (λ (n : ℕ). n % 2) (sym (shr-shr x i k))
@@ -94,29 +88,22 @@ byte_of_number n x j l =
 
 -- the j first bytes written
 pub written : List ℕ → ℕ → ℕ → List ℕ
-written xs x j = paste xs 0 (packed (length xs) (bit x)) j
+written xs x j = bytewise.written xs (bit x) j
 
 pub written_none : (xs : List ℕ) (x : ℕ) → xs ≡ written xs x 0
 unfolding written
-written_none xs x = refl
+written_none xs x = bytewise.written_none xs (bit x)
 
 pub written_more : (xs ys : List ℕ) (x j m : ℕ) → j < length xs → length ys ≡ length xs → m ≡ length xs → ys ≡ written xs x j
     → set ys j (bit_and (x / 2 ^ (8 * (m - 1 - j))) 255) ≡ written xs x (j + 1)
 unfolding written
 written_more xs ys x j m l same all e =
-    let s = packed (length xs) (bit x) in
-    let n = x / 2 ^ (8 * (length xs - 1 - j)) in
-    let place : m - 1 - j ≡ length xs - 1 - j = omega arith in
-    let byte : bit_and (x / 2 ^ (8 * (m - 1 - j))) 255 ≡ get_or s j 0 = ap (λ (k : ℕ). bit_and (x / 2 ^ (8 * k)) 255) place ∙ and_mask n 8 ∙ byte_of_number (length xs) x j l in
-    let long = length-packed (length xs) (bit x) in
-    rw (e, byte, add-one j) (ap (λ (n : ℕ). set (paste xs 0 s j) n (get_or s j 0)) (sym (zero-add j)) ∙ paste-suc xs 0 s j 0 (omega arith) (omega arith))
+    let i : ℕ = 8 * (m - 1 - j) in
+    bytewise.written_more xs ys (bit x) j m (bit_and (x / 2 ^ i) 255) l e all
+    (and_mask (x / 2 ^ i) 8 ∙ sym (number_ext 8 (from i (bit x)) (bit (x / 2 ^ i)) (λ k lk. bit_behind x i k) ∙ number-mod 8 (x / 2 ^ i)))
 
 pub written_all : (xs : List ℕ) (x j : ℕ) → j ≡ length xs → written xs x j ≡ packed (length xs) (bit x)
 unfolding written
-written_all xs x j e =
-    let s = packed (length xs) (bit x) in
-    ap (λ (l : List ℕ). l ++ drop (0 + j) xs) (take_all j s (omega (arith, length-packed (length xs) (bit x))))
-    ∙ ap (λ (l : List ℕ). s ++ l) (drop_of_length-le xs {i = 0 + j} (omega arith))
-    ∙ append-nil s
+written_all xs x j e = bytewise.written_all xs (bit x) j e
 
 pub ruleset written_laws = (written_none, written_more, written_all)

@@ -52,3 +52,11 @@ swapped_more i xs h =
     let one : 2 * i + 1 ≡ suc (2 * i) = omega arith in
     let two : i + 1 ≡ suc i = omega arith in
     rw (one, two) (swap_is (swapped i xs) (2 * i) (omega (arith, length-swapped i xs)) ∙ exchanged_more i (2 * i) xs refl (omega arith))
+
+-- and with the two bytes read first and then put, as `swap` does it
+pub assigned_more : (i : ℕ) (xs : List ℕ) → i < length xs / 2
+    → set (set (swapped i xs) (2 * i) (get_or (swapped i xs) (2 * i + 1) 0)) (2 * i + 1) (get_or (swapped i xs) (2 * i) 0) ≡ swapped (i + 1) xs
+assigned_more i xs h =
+    let one : 2 * i + 1 ≡ suc (2 * i) = omega arith in
+    let two : i + 1 ≡ suc i = omega arith in
+    rw (one, two) (exchanged_more i (2 * i) xs refl (omega arith))

@@ -39,7 +39,7 @@ pub fn normalize_byte_order(data: &mut [u8], byte_order: ByteOrder)
 }
 
 // Swaps the bytes in pairs. An odd last byte stays. A loop over an index: a proof loses what the chunks of `chunks_exact_mut` change.
-#[tactic(auto, using(crate::proofs::Exchange::swapped_all, crate::proofs::Exchange::swapped_more))]
+#[tactic(auto, using(crate::proofs::Exchange::swapped_all, crate::proofs::Exchange::swapped_more, crate::proofs::Exchange::assigned_more))]
 fn reorder_pairs(data: &mut [u8])
     ensures { «data».new ≡ swap_pairs «data».old }
 {

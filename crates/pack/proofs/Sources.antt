@@ -1,4 +1,5 @@
--- What the code reads by index is the source, with the same size and mask and the same bits below that size.
+-- What the code reads by index is the source, with the same size and mask and the same bits below that size, and a field's packing keeps
+-- its bounds.
 use Rattle.std.proofs.Common.{◌≡◌, refl, sym, ap, ap₂, ◌∙◌, ⊎_elim, Bool, true, false, cond, not, ◌&&◌, List, ◌++◌, append-nil, ℕ, ◌+◌, ◌-◌, ◌*◌, ◌%◌, ◌≤◌, ◌<◌, min, arith, length, take, drop, replicate, length-append, length-take, length-drop, eqb, ltb, leb, lt-ltb, le-ltb}
 use Rattle.std.proofs.lemmas.List.{length-replicate, take_min}
 use Rattle.std.proofs.Math.Nat.{min_comm}
@@ -14,7 +15,7 @@ use Rattle.masks.specs.Mask.{Mask, no_mask, plain_mask, condensed_mask}
 use Rattle.masks.specs.Plain.{bit_of_mask}
 use Rattle.condensed.specs.Condensed.{replaced}
 use Rattle.pack.specs.declared.Packing.{Packing}
-use Rattle.pack.specs.Source.{Source, bytes_source, last_bytes, first_bytes, standard_bits, standard_source, behind_length, terminated}
+use Rattle.pack.specs.Source.{Source, bytes_source, last_bytes, first_bytes, standard_bits, size_under, standard_source, behind_length, terminated}
 use Rattle.pack.specs.CodePacking.{framed_bit, packed_bit, packed_source, framing, aligning, packing}
 
 -- two sources that are written alike
@@ -127,3 +128,22 @@ pub standard_alike : (t : DataType) (len : ℕ) (mask : Mask) (input : List ℕ)
 standard_alike t len no_mask input = (refl, refl, λ i l. packed-aligned len input i l t)
 standard_alike t len (plain_mask mask) input = (refl, refl, λ i l. ap (λ (x : ℕ). min x (bit_of_mask mask i)) (packed-aligned len input i l t))
 standard_alike t len (condensed_mask mask) input = (refl, refl, λ i l. ap (λ (xs : List ℕ). replaced mask xs i) (take-length input))
+
+-- ---- a field's packing
+
+-- no more data than there is, and no more zeros behind them than the field has bytes
+aligned-within : (byte_type : Bool) (len n : ℕ) → ((aligning byte_type len n).data_len.0 ≤ n) × ((aligning byte_type len n).tail_len.0 ≤ bytes_for len)
+aligned-within true len n = (omega arith, omega arith)
+aligned-within false len n = (omega arith, omega arith)
+
+-- and the size is the one under the mask
+pub packed-within : (p : Packing) (mask : Mask) (byte_type : Bool) (len n : ℕ) → p ≡ packing mask byte_type len n
+    → (p.data_len.0 ≤ n) × (p.tail_len.0 ≤ bytes_for len) × (p.bit_len.0 ≡ size_under mask p.bit_len.0)
+packed-within p no_mask byte_type len n e = let w = aligned-within byte_type len n in rw e (w.0, w.1, refl)
+packed-within p (plain_mask mask) byte_type len n e = let w = aligned-within byte_type len n in rw e (w.0, w.1, refl)
+packed-within p (condensed_mask mask) byte_type len n e = rw e (omega arith, omega arith, refl)
+
+pub packing_size : (mask : Mask) (byte_type : Bool) (len n : ℕ) → (packing mask byte_type len n).bit_len.0 ≡ size_under mask len
+packing_size no_mask byte_type len n = refl
+packing_size (plain_mask mask) byte_type len n = refl
+packing_size (condensed_mask mask) byte_type len n = refl

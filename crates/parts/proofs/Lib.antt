@@ -1,2 +1,2 @@
--- No second answer fits the contract of a part.
+-- No second answer fits the contracts of a part and of the part of a refusal.
 pub mod OneAnswer

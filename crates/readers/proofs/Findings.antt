@@ -1,11 +1,11 @@
 -- What is read at the place that each variant names is what the variant finds.
-use Rattle.std.proofs.Common.{◌≡◌, ap, ◌∙◌, ⊎_elim, ◌&&◌, List, ℕ, ◌-◌, ◌*◌, ◌≤◌, ◌<◌, arith, length, ltb, lt-ltb, le-ltb, ltb-false, Ok, Err}
+use Rattle.std.proofs.Common.{◌≡◌, sym, ap, ◌∙◌, ⊎_elim, ◌&&◌, List, ℕ, ◌-◌, ◌*◌, ◌≤◌, ◌<◌, arith, length, ltb, lt-ltb, le-ltb, ltb-false, Ok, Err}
 use Rattle.kinds.specs.declared.types.DataType.{DataType}
 use Rattle.kinds.specs.declared.types.ByteOrder.{ByteOrder}
 use Rattle.kinds.specs.Types.{is_unicode_type}
 use Rattle.kinds.specs.Slices.{saturating_sum}
 use Rattle.kinds.specs.Outcomes.{Outcome, gives, lacks, after, unless_short, following, answer}
-use Rattle.kinds.specs.Answers.{passed, report_of_reading}
+use Rattle.kinds.specs.Answers.{Check, passed, report_of_reading}
 use Rattle.kinds.specs.declared.refusals.PosInfo.{PosInfo}
 use Rattle.kinds.specs.declared.refusals.Failure.{Failure}
 use Rattle.kinds.specs.declared.refusals.Failure.TheVariants.{NotEnoughData, Refused}
@@ -37,19 +37,18 @@ failed (Refused r) place next output e = rw (← e)
 
 -- ---- Standard
 
--- of a length that is not refused
-pub standard_found : (t : DataType) (o : ByteOrder) (len : ℕ) (mask : Mask) (payload : List ℕ) (at pos : ℕ) → bit_length_refusal t len ≡ passed
-    → read_bits o len mask payload at pos ≡ standard_finding t o len mask payload at pos
-standard_found t o len mask payload at pos z =
-    let s = some_bits t len z in
-    bits_there o len mask payload at pos (λ (e : len ≡ 0). omega arith) ∙ rw z
-
 pub standard_read : (t : DataType) (o : ByteOrder) (len : ℕ) (mask : Mask) (payload : List ℕ) (at pos : ℕ)
     → following (after (bit_length_refusal t len) (gives (span at len))) (λ s. read_bits o s.bits mask payload s.start pos) ≡ standard_finding t o len mask payload at pos
 standard_read t o len mask payload at pos =
     following-after (bit_length_refusal t len) (gives (span at len)) _
     ∙ after_ext (bit_length_refusal t len) (read_bits o len mask payload at pos) (bits_finding o len mask payload at pos)
     (λ z. let s = some_bits t len z in bits_there o len mask payload at pos (λ (e : len ≡ 0). omega arith))
+
+-- of a length that is not refused
+pub standard_found : (t : DataType) (o : ByteOrder) (len : ℕ) (mask : Mask) (payload : List ℕ) (at pos : ℕ) → bit_length_refusal t len ≡ passed
+    → read_bits o len mask payload at pos ≡ standard_finding t o len mask payload at pos
+standard_found t o len mask payload at pos z =
+    ap (λ (c : Check). following (after c (gives (span at len))) (λ s. read_bits o s.bits mask payload s.start pos)) (sym z) ∙ standard_read t o len mask payload at pos
 
 module _ (t : DataType) (o : ByteOrder) (payload : List ℕ) (at : ℕ) where
   -- what is read where data bytes are told

@@ -5,7 +5,7 @@ use Rattle.coded.specs.declared.variants.Termination.TheVariants.{EndOfPdu, Zero
 use Rattle.coded.specs.declared.variants.MinMaxLengthType.{MinMaxLengthType}
 use Rattle.scans.specs.MinMax.{end_by_max, stops_at, scan, scanned, end_by, min_max_end}
 
-max_end-le : (m : Option ℕ) (at n : ℕ) → end_by_max m at n ≤ n
+pub max_end-le : (m : Option ℕ) (at n : ℕ) → end_by_max m at n ≤ n
 max_end-le (Some most) at n = omega arith
 max_end-le None at n = omega arith
 
@@ -18,20 +18,20 @@ cond-le false h k = k
 
 module _ (step : ℕ) (stops : ℕ → Bool) where
   -- no place is left
-  scan_done : {n : ℕ} (p : ℕ) → n ≡ 0 → scan step stops n p ≡ p
+  pub scan_done : {n : ℕ} (p : ℕ) → n ≡ 0 → scan step stops n p ≡ p
   unfolding scan
   scan_done p e = rw e
 
-  scan_stops : (n p : ℕ) → 0 < n → stops p ≡ true → scan step stops n p ≡ p
+  pub scan_stops : (n p : ℕ) → 0 < n → stops p ≡ true → scan step stops n p ≡ p
   unfolding scan
   scan_stops zero p h s = absurd (omega arith)
   scan_stops (suc n) p h s = rw s
 
-  scan_goes_on : {n k : ℕ} (p : ℕ) → n ≡ suc k → stops p ≡ false → scan step stops n p ≡ scan step stops k (p + step)
+  pub scan_goes_on : {n k : ℕ} (p : ℕ) → n ≡ suc k → stops p ≡ false → scan step stops n p ≡ scan step stops k (p + step)
   unfolding scan
   scan_goes_on p e s = rw (e, scan, s)
 
-  scan-le : (n p : ℕ) → scan step stops n p ≤ p + step * n
+  pub scan-le : (n p : ℕ) → scan step stops n p ≤ p + step * n
   unfolding scan
   scan-le zero p = omega arith
   scan-le (suc n) p = cond-le (stops p) (omega arith) (omega (arith, scan-le n (p + step)))
@@ -69,7 +69,7 @@ module _ (x : ℕ) (payload : List ℕ) (at least end : ℕ) where
     from_goes_on h s = scan_goes_on (step_of unicode) (stops_at unicode x payload at least) p (places_one_less unicode p end h) s
 
 -- text of two bytes to a character goes one byte past the end at most; a start beyond the end is itself the end
-scanned-le : (unicode : Bool) (x : ℕ) (payload : List ℕ) (at least end : ℕ) → end ≤ length payload → scanned unicode x payload at least end ≤ max at (length payload + 1)
+pub scanned-le : (unicode : Bool) (x : ℕ) (payload : List ℕ) (at least end : ℕ) → end ≤ length payload → scanned unicode x payload at least end ≤ max at (length payload + 1)
 scanned-le true x payload at least end h = omega (arith, scan-le 2 (stops_at true x payload at least) ((end - at + 1) / 2) at)
 scanned-le false x payload at least end h = omega (arith, scan-le 1 (stops_at false x payload at least) (end - at) at)
 

@@ -1,4 +1,5 @@
 // The head of a stored answer: which call, how long the parts behind it are, and which numbers go in and come out.
+ghost use Rattle.std.specs.Prelude.{◌≡◌, ◌+◌};
 
 pub const HEAD_LEN: usize = 21;
 
@@ -101,5 +102,21 @@ impl From<[u8; HEAD_LEN]> for Head {
                 usize::from(actual),
             ],
         }
+    }
+}
+
+// A record stands before the parts.
+pub const RECORD_LEN: usize = 16;
+
+impl Head {
+    // How many bytes the record and the parts have together.
+    pub fn body_len(&self) -> usize
+        ensures { result ≡ 16 + self.now.store_len + self.now.input_len + self.now.payload_len + self.now.after_len }
+    {
+        RECORD_LEN
+            + usize::from(self.store_len)
+            + usize::from(self.input_len)
+            + usize::from(self.payload_len)
+            + usize::from(self.after_len)
     }
 }

@@ -1,6 +1,4 @@
-// A part of a stored answer: as many bytes as a byte of the head says.
-use super::filling::{Stop, fill};
-use std::io::Read;
+// What a call writes to: as many bytes as a byte of the head says.
 
 const MOST: usize = 255;
 
@@ -20,10 +18,13 @@ impl Part {
         }
     }
 
-    pub fn read<R: Read>(input: &mut R, len: u8) -> Result<Self, Stop> {
+    // So many bytes, the same as those told.
+    pub fn of(bytes: &[u8], len: u8) -> Self {
         let mut part = Part::blank(len);
-        fill(input, part.bytes_mut())?;
-        Ok(part)
+        for (byte, &told) in part.bytes_mut().iter_mut().zip(bytes) {
+            *byte = told;
+        }
+        part
     }
 
     pub fn bytes(&self) -> &[u8] {

@@ -1,8 +1,6 @@
 // A stored answer, and what becomes of it: its call, made again, is compared with it in full.
-use super::filling::{Stop, fill};
-use super::head::{Call, Head, UnknownCall};
+use super::head::{Call, Head, RECORD_LEN, UnknownCall};
 use super::part::Part;
-use std::io::Read;
 
 // What no stored number is, so that one left unwritten shows.
 const UNWRITTEN: usize = 1 << 31;
@@ -16,28 +14,35 @@ pub enum Verdict {
     Cut,
 }
 
+// A record and four parts of at most 255 bytes.
+pub const BODY_MOST: usize = 1036;
+
 #[derive(Clone, Copy, Debug, PartialEq, Eq)]
-pub struct Stored {
-    head: Head,
-    record: [u8; 16],
-    store: Part,
-    input: Part,
-    payload: Part,
-    after: Part,
+pub struct Stored<'a> {
+    head: &'a Head,
+    record: &'a [u8],
+    store: &'a [u8],
+    input: &'a [u8],
+    payload: &'a [u8],
+    after: &'a [u8],
 }
 
-impl Stored {
-    pub fn read<R: Read>(head: Head, input: &mut R) -> Result<Self, Stop> {
-        let mut record = [0; 16];
-        fill(input, &mut record)?;
-        Ok(Stored {
+impl<'a> Stored<'a> {
+    // The record and the parts stand one after the other.
+    pub fn of(head: &'a Head, body: &'a [u8; BODY_MOST]) -> Self {
+        let (record, rest) = body.split_at(RECORD_LEN);
+        let (store, rest) = rest.split_at(usize::from(head.store_len));
+        let (input, rest) = rest.split_at(usize::from(head.input_len));
+        let (payload, rest) = rest.split_at(usize::from(head.payload_len));
+        let (after, _) = rest.split_at(usize::from(head.after_len));
+        Stored {
             head,
             record,
-            store: Part::read(input, head.store_len)?,
-            input: Part::read(input, head.input_len)?,
-            payload: Part::read(input, head.payload_len)?,
-            after: Part::read(input, head.after_len)?,
-        })
+            store,
+            input,
+            payload,
+            after,
+        }
     }
 
     // Whether these are the stored number and report.
@@ -46,11 +51,9 @@ impl Stored {
     }
 
     // Whether the bytes are those stored, and behind them still what they were before the call.
-    fn leaves(&self, left: &Part, before: &Part) -> bool {
-        let after = self.after.bytes();
-        let behind = after.len();
-        left.bytes().starts_with(after)
-            && left.bytes().get(behind..) == before.bytes().get(behind..)
+    fn leaves(&self, left: &[u8], before: &[u8]) -> bool {
+        let behind = self.after.len();
+        left.starts_with(self.after) && left.get(behind..) == before.get(behind..)
     }
 
     fn decodes(&self, room: u8) -> bool {
@@ -58,66 +61,68 @@ impl Stored {
         let mut output = blank;
         let mut report = [UNWRITTEN; 4];
         let number = dct::dct_decode(
-            &self.record,
-            self.store.bytes(),
-            self.payload.bytes(),
+            self.record,
+            self.store,
+            self.payload,
             self.head.byte_pos,
             self.head.bit_pos,
             output.bytes_mut(),
             &mut report,
         );
-        self.gives(number, report) && self.leaves(&output, &blank)
+        self.gives(number, report) && self.leaves(output.bytes(), blank.bytes())
     }
 
     fn encodes(&self, used: usize, used_after: usize) -> bool {
-        let mut payload = self.payload;
+        let mut payload = Part::of(self.payload, self.head.payload_len);
         let mut used = used;
         let mut report = [UNWRITTEN; 4];
         let number = dct::dct_encode(
-            &self.record,
-            self.store.bytes(),
-            self.input.bytes(),
+            self.record,
+            self.store,
+            self.input,
             payload.bytes_mut(),
             &mut used,
             self.head.byte_pos,
             self.head.bit_pos,
             &mut report,
         );
-        self.gives(number, report) && used == used_after && self.leaves(&payload, &self.payload)
+        self.gives(number, report)
+            && used == used_after
+            && self.leaves(payload.bytes(), self.payload)
     }
 
     fn clears(&self, used: usize) -> bool {
-        let mut payload = self.payload;
+        let mut payload = Part::of(self.payload, self.head.payload_len);
         let mut report = [UNWRITTEN; 4];
         let number = dct::dct_clear(
-            &self.record,
-            self.store.bytes(),
+            self.record,
+            self.store,
             payload.bytes_mut(),
             used,
             self.head.byte_pos,
             self.head.bit_pos,
             &mut report,
         );
-        self.gives(number, report) && self.leaves(&payload, &self.payload)
+        self.gives(number, report) && self.leaves(payload.bytes(), self.payload)
     }
 
     fn reads(&self, byte_count: usize, place: usize) -> bool {
         let mut start = UNWRITTEN;
         let mut report = [UNWRITTEN; 4];
         let number = dct::dct_read(
-            &self.record,
-            self.store.bytes(),
-            self.payload.bytes(),
+            self.record,
+            self.store,
+            self.payload,
             self.head.byte_pos,
             byte_count,
             &mut start,
             &mut report,
         );
         let [_, count, _, _] = report;
-        let rest = self.payload.bytes().get(start..);
+        let rest = self.payload.get(start..);
         self.gives(number, report)
             && start == place
-            && rest.and_then(|rest| rest.get(..count)) == Some(self.after.bytes())
+            && rest.and_then(|rest| rest.get(..count)) == Some(self.after)
     }
 
     // Makes the call again. A code that no call has is never stored.
